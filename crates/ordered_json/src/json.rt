@@ -6,17 +6,34 @@ use xs_data::{Items, Text};
 #[derive(Debug, Drop)]
 pub enum OrderedJson {
     /// `null`.
-    Null { place: usize },
+    Null {
+        place: usize,
+    },
     /// `true` or `false`.
-    Bool { place: usize, value: bool },
+    Bool {
+        place: usize,
+        value: bool,
+    },
     /// A number that is whole and fits 64 bits with a sign.
-    Int { place: usize, value: i64 },
+    Int {
+        place: usize,
+        value: i64,
+    },
     /// A string, with its escapes resolved.
-    Text { place: usize, text: Text },
+    Text {
+        place: usize,
+        text: Text,
+    },
     /// An array, in the order of the text.
-    List { place: usize, items: Items<OrderedJson> },
+    List {
+        place: usize,
+        items: Items<OrderedJson>,
+    },
     /// An object, its members in the order of the text. No key comes twice.
-    Object { place: usize, members: Items<Member> },
+    Object {
+        place: usize,
+        members: Items<Member>,
+    },
 }
 
 /// A member of an object.

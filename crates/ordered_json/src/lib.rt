@@ -4,6 +4,8 @@
 
 mod fault;
 mod json;
+mod reader;
 
 pub use fault::JsonFault;
 pub use json::{Member, OrderedJson};
+pub use reader::read;
