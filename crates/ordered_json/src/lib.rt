@@ -2,10 +2,13 @@
 //! part, or says which fault comes first and where it stands.
 #![tactic(auto)]
 
+mod byte;
 mod fault;
 mod json;
+mod level;
+mod members;
+mod mode;
 mod reader;
 
 pub use fault::JsonFault;
 pub use json::{Member, OrderedJson};
-pub use reader::read;
