@@ -12,6 +12,8 @@ use Rattle.ordered_json.specs.declared.level.Level.{Level}
 use Rattle.ordered_json.specs.declared.level.Level.TheVariants as level
 use Rattle.ordered_json.specs.declared.mode.Mode.{Mode}
 use Rattle.ordered_json.specs.declared.mode.Mode.TheVariants as mode
+use Rattle.ordered_json.specs.declared.mode.Spelled.{Spelled}
+use Rattle.ordered_json.specs.declared.mode.Spelled.TheVariants as spelled
 use Rattle.ordered_json.specs.declared.mode.Spelling.{Spelling}
 use Rattle.ordered_json.specs.declared.mode.Spelling.TheVariants as at
 use Rattle.ordered_json.specs.declared.mode.Unit.{Unit as HexUnit}
@@ -189,11 +191,6 @@ end_key place p r = end_key_in place p r r.levels
 unfoldable pub end_text : ℕ → ℕ → Bool → Reader → Outcome
 end_text place p is_key r = cond is_key (end_key place p r) (complete place (a_text p r.content) (record r { content = [] }))
 
--- a character of a string is read
-unfoldable pub add_char : ℕ → ℕ → Bool → ℕ → Reader → Outcome
-add_char place p is_key c r =
-    cond (scalar c) (Ok (record r { content = r.content ++ encode_utf8 c; mode = mode.Text p is_key at.Between })) (Err (Syntax place))
-
 -- how UTF-8 goes on (RFC 3629, section 4)
 abbrev pub is_lead : ℕ → Bool
 is_lead a = nat_le 0xC2 a && nat_le a 0xF4
@@ -224,47 +221,60 @@ hex_value u = ((digit_value u.first * 16 + digit_value u.second) * 16 + digit_va
 abbrev pub hex_unit : ℕ → ℕ → ℕ → ℕ → HexUnit
 hex_unit a b c d = record { first = a; second = b; third = c; fourth = d }
 
+-- a character by its code
+abbrev pub char_of : ℕ → Spelled
+char_of c = cond (scalar c) (spelled.Char c) spelled.Bad
+
+-- four digits that stand first
+abbrev pub unit_end : HexUnit → Spelled
+unit_end u = cond (is_high_surrogate (hex_value u)) (spelled.More (at.High u)) (char_of (hex_value u))
+
+-- four digits after a high surrogate's
+abbrev pub pair_end : HexUnit → HexUnit → Spelled
+pair_end u v = cond (is_high_surrogate (hex_value u) && is_low_surrogate (hex_value v)) (char_of (pair_value (hex_value u) (hex_value v))) spelled.Bad
+
+-- whether two digits begin a code unit that is no low surrogate
+abbrev pub is_no_low : ℕ → ℕ → Bool
+is_no_low a b = is_digit b 16 && not ((digit_value a == 13) && nat_le 12 (digit_value b))
+
+-- the second and the third byte of a character in UTF-8
+abbrev pub after_second : ℕ → ℕ → Spelled
+after_second a b = cond (nat_lt a 0xE0) (char_of (two_bytes a b)) (spelled.More (at.Lead2 a b))
+
+abbrev pub after_third : ℕ → ℕ → ℕ → Spelled
+after_third a b c = cond (nat_lt a 0xF0) (char_of (three_bytes a b c)) (spelled.More (at.Lead3 a b c))
+
 -- a byte of a string
-abbrev pub in_text_at : ℕ → ℕ → Bool → ℕ → Reader → Spelling → Outcome
-in_text_at place p k b r at.Between =
-    cond (b == 34) (end_text place p k r)
-    (cond (b == 92) (go (mode.Text p k at.Backslash) r)
-    (cond (nat_lt b 32) (Err (Syntax place))
-    (cond (nat_lt b 128) (add_char place p k b r)
-    (cond (is_lead b) (go (mode.Text p k (at.Lead1 b)) r) (Err (Syntax place))))))
-in_text_at place p k b r at.Backslash =
-    cond (b == 117) (go (mode.Text p k at.Hex0) r)
-    (cond (escape_value b == 0) (Err (Syntax place)) (add_char place p k (escape_value b) r))
-in_text_at place p k b r at.Hex0 = cond (is_digit b 16) (go (mode.Text p k (at.Hex1 b)) r) (Err (Syntax place))
--- DC00 to DFFF may not stand first
-in_text_at place p k b r (at.Hex1 a) =
-    cond (is_digit b 16 && not ((digit_value a == 13) && nat_le 12 (digit_value b))) (go (mode.Text p k (at.Hex2 a b)) r) (Err (Syntax place))
-in_text_at place p k d r (at.Hex2 a b) = cond (is_digit d 16) (go (mode.Text p k (at.Hex3 a b d)) r) (Err (Syntax place))
-in_text_at place p k d r (at.Hex3 a b c) =
-    cond (is_digit d 16)
-    (cond (is_high_surrogate (hex_value (hex_unit a b c d))) (go (mode.Text p k (at.High (hex_unit a b c d))) r) (add_char place p k (hex_value (hex_unit a b c d)) r))
-    (Err (Syntax place))
-in_text_at place p k b r (at.High u) = cond (b == 92) (go (mode.Text p k (at.HighBackslash u)) r) (Err (Syntax place))
-in_text_at place p k b r (at.HighBackslash u) = cond (b == 117) (go (mode.Text p k (at.Low0 u)) r) (Err (Syntax place))
-in_text_at place p k b r (at.Low0 u) = cond (digit_value b == 13) (go (mode.Text p k (at.Low1 u b)) r) (Err (Syntax place))
-in_text_at place p k b r (at.Low1 u a) = cond (is_digit b 16 && nat_le 12 (digit_value b)) (go (mode.Text p k (at.Low2 u a b)) r) (Err (Syntax place))
-in_text_at place p k d r (at.Low2 u a b) = cond (is_digit d 16) (go (mode.Text p k (at.Low3 u a b d)) r) (Err (Syntax place))
-in_text_at place p k d r (at.Low3 u a b c) =
-    cond (is_digit d 16 && (is_high_surrogate (hex_value u) && is_low_surrogate (hex_value (hex_unit a b c d))))
-    (add_char place p k (pair_value (hex_value u) (hex_value (hex_unit a b c d))) r)
-    (Err (Syntax place))
-in_text_at place p k b r (at.Lead1 a) =
-    cond (is_second a b)
-    (cond (nat_lt a 0xE0) (add_char place p k (two_bytes a b) r) (go (mode.Text p k (at.Lead2 a b)) r))
-    (Err (Syntax place))
-in_text_at place p k c r (at.Lead2 a b) =
-    cond (is_tail c)
-    (cond (nat_lt a 0xF0) (add_char place p k (three_bytes a b c) r) (go (mode.Text p k (at.Lead3 a b c)) r))
-    (Err (Syntax place))
-in_text_at place p k d r (at.Lead3 a b c) = cond (is_tail d) (add_char place p k (four_bytes a b c d) r) (Err (Syntax place))
+abbrev pub spell : Spelling → ℕ → Spelled
+spell at.Between b =
+    cond (b == 34) spelled.End
+    (cond (b == 92) (spelled.More at.Backslash)
+    (cond (nat_lt b 32) spelled.Bad
+    (cond (nat_lt b 128) (spelled.Char b)
+    (cond (is_lead b) (spelled.More (at.Lead1 b)) spelled.Bad))))
+spell at.Backslash b = cond (b == 117) (spelled.More at.Hex0) (cond (escape_value b == 0) spelled.Bad (spelled.Char (escape_value b)))
+spell at.Hex0 b = cond (is_digit b 16) (spelled.More (at.Hex1 b)) spelled.Bad
+spell (at.Hex1 a) b = cond (is_no_low a b) (spelled.More (at.Hex2 a b)) spelled.Bad
+spell (at.Hex2 a b) c = cond (is_digit c 16) (spelled.More (at.Hex3 a b c)) spelled.Bad
+spell (at.Hex3 a b c) d = cond (is_digit d 16) (unit_end (hex_unit a b c d)) spelled.Bad
+spell (at.High u) b = cond (b == 92) (spelled.More (at.HighBackslash u)) spelled.Bad
+spell (at.HighBackslash u) b = cond (b == 117) (spelled.More (at.Low0 u)) spelled.Bad
+spell (at.Low0 u) b = cond (digit_value b == 13) (spelled.More (at.Low1 u b)) spelled.Bad
+spell (at.Low1 u a) b = cond (is_digit b 16 && nat_le 12 (digit_value b)) (spelled.More (at.Low2 u a b)) spelled.Bad
+spell (at.Low2 u a b) c = cond (is_digit c 16) (spelled.More (at.Low3 u a b c)) spelled.Bad
+spell (at.Low3 u a b c) d = cond (is_digit d 16) (pair_end u (hex_unit a b c d)) spelled.Bad
+spell (at.Lead1 a) b = cond (is_second a b) (after_second a b) spelled.Bad
+spell (at.Lead2 a b) c = cond (is_tail c) (after_third a b c) spelled.Bad
+spell (at.Lead3 a b c) d = cond (is_tail d) (char_of (four_bytes a b c d)) spelled.Bad
+
+abbrev pub spelled_in : ℕ → ℕ → Bool → Reader → Spelled → Outcome
+spelled_in place p k r (spelled.More s) = go (mode.Text p k s) r
+spelled_in place p k r (spelled.Char c) = Ok (record r { content = r.content ++ encode_utf8 c; mode = mode.Text p k at.Between })
+spelled_in place p k r spelled.End = end_text place p k r
+spelled_in place p k r spelled.Bad = Err (Syntax place)
 
 unfoldable pub in_text : ℕ → ℕ → Bool → Spelling → ℕ → Reader → Outcome
-in_text place p k s b r = in_text_at place p k b r s
+in_text place p k s b r = spelled_in place p k r (spell s b)
 
 -- one byte
 abbrev pub step_in : ℕ → ℕ → Reader → Mode → Outcome

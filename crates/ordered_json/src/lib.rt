@@ -9,6 +9,7 @@ mod level;
 mod members;
 mod mode;
 mod reader;
+mod spell;
 
 pub use fault::JsonFault;
 pub use json::{Member, OrderedJson};

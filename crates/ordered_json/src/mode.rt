@@ -1,3 +1,7 @@
+ghost use Rattle.std.specs.Prelude.{◌≡◌};
+
+use crate::OrderedJson;
+
 /// What may stand next in the text.
 #[derive(Clone, Copy, Debug)]
 pub enum Mode {
@@ -121,4 +125,46 @@ pub enum Spelling {
         second: u8,
         third: u8,
     },
+}
+
+impl Word {
+    ghost use Rattle.ordered_json.specs.Steps.{word_text, word_value};
+
+    /// The letters.
+    pub fn text(self) -> &'static [u8]
+        ensures { result.now ≡ word_text self }
+    {
+        match self {
+            Word::Null => b"null",
+            Word::True => b"true",
+            Word::False => b"false",
+        }
+    }
+
+    /// The value that the name stands for.
+    pub fn value(self, place: usize) -> OrderedJson
+        ensures { result ≡ word_value place self }
+    {
+        match self {
+            Word::Null => OrderedJson::Null { place },
+            Word::True => OrderedJson::Bool { place, value: true },
+            Word::False => OrderedJson::Bool {
+                place,
+                value: false,
+            },
+        }
+    }
+}
+
+/// What a byte of a string makes of the character before it.
+#[derive(Clone, Copy, Debug)]
+pub enum Spelled {
+    /// The character goes on.
+    More(Spelling),
+    /// The character is read.
+    Char(char),
+    /// The byte is the closing quote.
+    End,
+    /// No character goes on so.
+    Bad,
 }

@@ -1,4 +1,4 @@
-ghost use Rattle.std.specs.Prelude.{◌≡◌, ◌≢◌, ◌+◌, ◌<◌, IfErr, IfOk, OnOk, Ok, Err, length};
+ghost use Rattle.std.specs.Prelude.{SomeIff, true, ◌≡◌, ◌≢◌, ◌+◌, ◌<◌, IfErr, IfOk, OnOk, Ok, Err, length};
 ghost use Rattle.ordered_json.specs.Meaning.{int_value, fits};
 ghost use Rattle.ordered_json.specs.Steps as steps;
 
@@ -203,6 +203,133 @@ impl Reader {
         }
     }
 
+    /// A number is at its end.
+    #[tactic(auto, unfolding(crate::specs::Steps::end_number))]
+    fn end_number(
+        &mut self,
+        alloc: Global,
+        place: usize,
+        first: usize,
+        minus: bool,
+        magnitude: u64,
+    ) -> Result<(), JsonFault>
+        ensures ok { OnOk result (steps.end_number place first minus magnitude self.old ≡ Ok self.new) }
+        ensures err { IfErr result (λ fault. fault ≢ JsonFault.Memory → steps.end_number place first minus magnitude self.old ≡ Err fault) }
+    {
+        match int_value(minus, magnitude) {
+            Some(value) => self.complete(
+                alloc,
+                place,
+                OrderedJson::Int {
+                    place: first,
+                    value,
+                },
+            ),
+            None => Err(JsonFault::Range(first)),
+        }
+    }
+
+    /// The byte after a number's digits.
+    #[tactic(auto, unfolding(crate::specs::Steps::after_digits))]
+    fn after_digits(
+        &mut self,
+        alloc: Global,
+        place: usize,
+        first: usize,
+        minus: bool,
+        magnitude: u64,
+        byte: u8,
+    ) -> Result<(), JsonFault>
+        ensures ok { OnOk result (steps.after_digits place first minus magnitude byte self.old ≡ Ok self.new) }
+        ensures err { IfErr result (λ fault. fault ≢ JsonFault.Memory → steps.after_digits place first minus magnitude byte self.old ≡ Err fault) }
+    {
+        if is_mark(byte) {
+            return Err(JsonFault::Fraction(first));
+        }
+        self.end_number(alloc, place, first, minus, magnitude)?;
+        self.between(alloc, place, byte)
+    }
+
+    /// A byte after the first digit of a number.
+    #[tactic(auto, unfolding(crate::specs::Steps::in_digits))]
+    fn in_digits(
+        &mut self,
+        alloc: Global,
+        place: usize,
+        first: usize,
+        minus: bool,
+        magnitude: u64,
+        byte: u8,
+    ) -> Result<(), JsonFault>
+        ensures ok { OnOk result (steps.in_digits place first minus magnitude byte self.old ≡ Ok self.new) }
+        ensures err { IfErr result (λ fault. fault ≢ JsonFault.Memory → steps.in_digits place first minus magnitude byte self.old ≡ Err fault) }
+    {
+        if !is_decimal(byte) {
+            return self.after_digits(alloc, place, first, minus, magnitude, byte);
+        }
+        let digit = u64::from(byte - b'0');
+        self.mode = Mode::Digits {
+            place: first,
+            minus,
+            magnitude: magnitude.saturating_mul(10).saturating_add(digit),
+        };
+        Ok(())
+    }
+
+    /// The byte after a number's minus.
+    #[tactic(auto, unfolding(crate::specs::Steps::after_minus))]
+    fn after_minus(&mut self, place: usize, first: usize, byte: u8) -> Result<(), JsonFault>
+        ensures ok { OnOk result (steps.after_minus place first byte self.old ≡ Ok self.new) }
+        ensures err { IfErr result (λ fault. fault ≢ JsonFault.Memory → steps.after_minus place first byte self.old ≡ Err fault) }
+    {
+        if byte == b'0' {
+            self.mode = Mode::Zero {
+                place: first,
+                minus: true,
+            };
+            Ok(())
+        } else if is_decimal(byte) {
+            self.mode = Mode::Digits {
+                place: first,
+                minus: true,
+                magnitude: u64::from(byte - b'0'),
+            };
+            Ok(())
+        } else {
+            Err(JsonFault::Syntax(place))
+        }
+    }
+
+    /// A byte after the first letter of a name.
+    #[tactic(auto, unfolding(crate::specs::Steps::in_word))]
+    fn in_word(
+        &mut self,
+        alloc: Global,
+        place: usize,
+        first: usize,
+        word: Word,
+        read: usize,
+        byte: u8,
+    ) -> Result<(), JsonFault>
+        ensures ok { OnOk result (steps.in_word place first word read byte self.old ≡ Ok self.new) }
+        ensures err { IfErr result (λ fault. fault ≢ JsonFault.Memory → steps.in_word place first word read byte self.old ≡ Err fault) }
+    {
+        let text = word.text();
+        if read >= text.len() || text[read] != byte {
+            return Err(JsonFault::Syntax(place));
+        }
+        if read + 1 == text.len() {
+            self.complete(alloc, place, word.value(first))
+        } else {
+            self.mode = Mode::Word {
+                place: first,
+                word,
+                read: read + 1,
+            };
+            Ok(())
+        }
+    }
+
     /// The first byte of a key.
     fn begin_key(&mut self, place: usize, byte: u8) -> Result<(), JsonFault>
         ensures ok { OnOk result (steps.begin_key place byte self.old ≡ Ok self.new) }
@@ -252,5 +379,20 @@ fn scalar_mode(place: usize, byte: u8) -> Result<Mode, JsonFault>
             magnitude: u64::from(byte - b'0'),
         }),
         _ => Err(JsonFault::Syntax(place)),
+    }
+}
+
+/// The number of a magnitude and a sign, where it fits.
+fn int_value(minus: bool, magnitude: u64) -> Option<i64>
+    ensures { SomeIff result (fits minus magnitude ≡ true) (int_value minus magnitude) }
+{
+    if minus {
+        if magnitude <= 1 << 63 {
+            Some((-i128::from(magnitude)) as i64)
+        } else {
+            None
+        }
+    } else {
+        i64::try_from(magnitude).ok()
     }
 }
