@@ -326,3 +326,7 @@ answer_of place (Ok r) = root_of place r.root
 -- what the reader answers to a text of which it read all
 abbrev pub finish : ℕ → Outcome → Result OrderedJson JsonFault
 finish place o = answer_of place (and_then o (settle place))
+
+-- what the reader answers to a text
+abbrev pub answer : List ℕ → Result OrderedJson JsonFault
+answer text = finish (length text) (run 0 text (Ok start))

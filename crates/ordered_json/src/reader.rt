@@ -2,10 +2,11 @@ ghost use Rattle.std.specs.Prelude.{SomeIff, true, ◌≡◌, ◌≢◌, ◌+◌
 ghost use Rattle.ordered_json.specs.Meaning.{int_value, fits};
 ghost use Rattle.ordered_json.specs.Steps as steps;
 
-use crate::byte::{escape_value, is_blank, is_decimal, is_mark};
+use crate::byte::{is_blank, is_decimal, is_mark};
 use crate::level::{Awaits, Level, Levels};
 use crate::members::OpenMembers;
-use crate::mode::{Mode, Spelling, Word};
+use crate::mode::{Mode, Spelled, Spelling, Word};
+use crate::spell::spell;
 use crate::{JsonFault, OrderedJson};
 use std::alloc::Global;
 use std::mem;
@@ -328,6 +329,163 @@ impl Reader {
             };
             Ok(())
         }
+    }
+
+    /// The closing quote of a key: its object may not have the key.
+    #[tactic(auto, unfolding(crate::specs::Steps::end_key))]
+    fn end_key(&mut self, alloc: Global, place: usize, first: usize) -> Result<(), JsonFault>
+        ensures ok { OnOk result (steps.end_key place first self.old ≡ Ok self.new) }
+        ensures err { IfErr result (λ fault. fault ≢ JsonFault.Memory → steps.end_key place first self.old ≡ Err fault) }
+    {
+        let key = mem::replace(&mut self.content, Text::new(alloc));
+        match self.levels.pop() {
+            Some(
+                Level::Object {
+                    place: bracket,
+                    members,
+                },
+            ) => {
+                if members.has_key(key.as_str()) {
+                    return Err(JsonFault::DoubleKey(first));
+                }
+                self.mode = Mode::Colon;
+                self.levels.push(Level::Member {
+                    place: bracket,
+                    members,
+                    key,
+                    key_place: first,
+                })?;
+                Ok(())
+            }
+            _ => Err(JsonFault::Syntax(place)),
+        }
+    }
+
+    /// The closing quote of a string.
+    #[tactic(auto, unfolding(crate::specs::Steps::end_text))]
+    fn end_text(
+        &mut self,
+        alloc: Global,
+        place: usize,
+        first: usize,
+        is_key: bool,
+    ) -> Result<(), JsonFault>
+        ensures ok { OnOk result (steps.end_text place first is_key self.old ≡ Ok self.new) }
+        ensures err { IfErr result (λ fault. fault ≢ JsonFault.Memory → steps.end_text place first is_key self.old ≡ Err fault) }
+    {
+        if is_key {
+            return self.end_key(alloc, place, first);
+        }
+        let text = mem::replace(&mut self.content, Text::new(alloc));
+        self.complete(alloc, place, OrderedJson::Text { place: first, text })
+    }
+
+    /// A byte of a string.
+    #[tactic(auto, unfolding(crate::specs::Steps::in_text))]
+    fn in_text(
+        &mut self,
+        alloc: Global,
+        place: usize,
+        first: usize,
+        is_key: bool,
+        at: Spelling,
+        byte: u8,
+    ) -> Result<(), JsonFault>
+        ensures ok { OnOk result (steps.in_text place first is_key at byte self.old ≡ Ok self.new) }
+        ensures err { IfErr result (λ fault. fault ≢ JsonFault.Memory → steps.in_text place first is_key at byte self.old ≡ Err fault) }
+    {
+        match spell(at, byte) {
+            Spelled::More(at) => {
+                self.mode = Mode::Text {
+                    place: first,
+                    is_key,
+                    at,
+                };
+                Ok(())
+            }
+            Spelled::Char(character) => {
+                self.mode = Mode::Text {
+                    place: first,
+                    is_key,
+                    at: Spelling::Between,
+                };
+                self.content.push(character)?;
+                Ok(())
+            }
+            Spelled::End => self.end_text(alloc, place, first, is_key),
+            Spelled::Bad => Err(JsonFault::Syntax(place)),
+        }
+    }
+
+    /// Takes the next byte, which stands at `place`.
+    #[tactic(auto, unfolding(crate::specs::Steps::step))]
+    pub fn step(&mut self, alloc: Global, place: usize, byte: u8) -> Result<(), JsonFault>
+        ensures ok { OnOk result (steps.step place byte self.old ≡ Ok self.new) }
+        ensures err { IfErr result (λ fault. fault ≢ JsonFault.Memory → steps.step place byte self.old ≡ Err fault) }
+    {
+        match self.mode {
+            Mode::Text {
+                place: first,
+                is_key,
+                at,
+            } => self.in_text(alloc, place, first, is_key, at, byte),
+            Mode::Word {
+                place: first,
+                word,
+                read,
+            } => self.in_word(alloc, place, first, word, read, byte),
+            Mode::Minus { place: first } => self.after_minus(place, first, byte),
+            Mode::Zero {
+                place: first,
+                minus,
+            } => self.after_digits(alloc, place, first, minus, 0, byte),
+            Mode::Digits {
+                place: first,
+                minus,
+                magnitude,
+            } => self.in_digits(alloc, place, first, minus, magnitude, byte),
+            Mode::Value
+            | Mode::FirstItem
+            | Mode::FirstKey
+            | Mode::Key
+            | Mode::Colon
+            | Mode::After => self.between(alloc, place, byte),
+        }
+    }
+
+    /// The end of the text, where a number may be at its end too.
+    #[tactic(auto, unfolding(crate::specs::Steps::settle))]
+    fn settle(&mut self, alloc: Global, place: usize) -> Result<(), JsonFault>
+        ensures ok { OnOk result (steps.settle place self.old ≡ Ok self.new) }
+        ensures err { IfErr result (λ fault. fault ≢ JsonFault.Memory → steps.settle place self.old ≡ Err fault) }
+    {
+        match self.mode {
+            Mode::Zero {
+                place: first,
+                minus,
+            } => self.end_number(alloc, place, first, minus, 0),
+            Mode::Digits {
+                place: first,
+                minus,
+                magnitude,
+            } => self.end_number(alloc, place, first, minus, magnitude),
+            _ => Ok(()),
+        }
+    }
+
+    /// The value of the text that was read, which has `len` bytes.
+    pub fn finish(mut self, alloc: Global, len: usize) -> Result<OrderedJson, JsonFault>
+        ensures ok { IfOk result (λ json. steps.finish len (Ok self) ≡ Ok json) }
+        ensures err { IfErr result (λ fault. fault ≢ JsonFault.Memory → steps.finish len (Ok self) ≡ Err fault) }
+    {
+        self.settle(alloc, len)?;
+        let Reader {
+            root,
+            levels: _,
+            mode: _,
+            content: _,
+        } = self;
+        root.ok_or(JsonFault::Syntax(len))
     }
 
     /// The first byte of a key.
