@@ -293,11 +293,6 @@ step_in place b r (mode.Text p k s) = in_text place p k s b r
 unfoldable pub step : ℕ → ℕ → Reader → Outcome
 step place b r = step_in place b r r.mode
 
--- the bytes from a place on
-abbrev pub run : ℕ → List ℕ → Outcome → Outcome
-run place [] o = o
-run place (b ∷ bs) o = run (place + 1) bs (and_then o (step place b))
-
 -- the end of the text
 abbrev pub settle_in : ℕ → Reader → Mode → Outcome
 settle_in place r mode.Value = Ok r
@@ -327,6 +322,11 @@ answer_of place (Ok r) = root_of place r.root
 abbrev pub finish : ℕ → Outcome → Result OrderedJson JsonFault
 finish place o = answer_of place (and_then o (settle place))
 
+-- what the reader answers once it has read the bytes too, which stand from a place on
+abbrev pub answer_from : ℕ → List ℕ → Outcome → Result OrderedJson JsonFault
+answer_from place [] o = finish place o
+answer_from place (b ∷ bs) o = answer_from (place + 1) bs (and_then o (step place b))
+
 -- what the reader answers to a text
 abbrev pub answer : List ℕ → Result OrderedJson JsonFault
-answer text = finish (length text) (run 0 text (Ok start))
+answer text = answer_from 0 text (Ok start)
