@@ -1,2 +1,5 @@
 pub mod Keys
 pub mod Runs
+pub mod States
+pub mod Accept
+pub mod Numbers

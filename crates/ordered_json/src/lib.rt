@@ -5,6 +5,7 @@
 mod byte;
 mod fault;
 mod json;
+pub mod laws;
 mod level;
 mod members;
 mod mode;
