@@ -3,3 +3,4 @@ pub mod Runs
 pub mod States
 pub mod Accept
 pub mod Numbers
+pub mod Strings
