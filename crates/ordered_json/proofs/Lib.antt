@@ -4,3 +4,4 @@ pub mod States
 pub mod Accept
 pub mod Numbers
 pub mod Strings
+pub mod Trees

@@ -1,5 +1,5 @@
 -- The reader goes over the characters of a string.
-use Rattle.std.proofs.Common.{◌≡◌, [], ◌∷◌, ◌++◌, ℕ, ◌+◌, ◌-◌, ◌*◌, ◌/◌, ◌%◌, ◌≤◌, ◌<◌, Bool, true, false, cond, ◌||◌, ◌&&◌, ◌==◌, ◌⊎◌, inl, inr, List, length, Option, Some, None, Result, Ok, Err, refl, ap, sym, ◌∙◌, arith, subst, append_assoc}
+use Rattle.std.proofs.Common.{◌≡◌, [], ◌∷◌, ◌++◌, ℕ, ◌+◌, ◌-◌, ◌*◌, ◌/◌, ◌%◌, ◌≤◌, ◌<◌, Bool, true, false, cond, ◌||◌, ◌&&◌, ◌==◌, ◌⊎◌, inl, inr, List, length, Option, Some, None, Result, Ok, Err, refl, ap, sym, ◌∙◌, arith, subst, append_assoc, append-nil, length-append}
 use Rattle.std.specs.Bool.{⊤}
 use Rattle.std.specs.Prelude.{encode_utf8, nat_le, nat_lt, not}
 use Rattle.std.specs.Char.{digit_value, is_digit, IsScalar}
@@ -16,7 +16,7 @@ use Rattle.ordered_json.specs.declared.mode.Spelling.TheVariants as at
 use Rattle.ordered_json.specs.declared.reader.Reader.{Reader}
 use Rattle.ordered_json.specs.Grammar.{Char, plain, escaped, coded, paired, CodeUnit, are_hex, unit_value, is_high_surrogate, is_low_surrogate, escape_value, IsChar, AreChars, print_char, print_chars, print_unit}
 use Rattle.ordered_json.specs.Meaning.{char_value, content, pair_value}
-use Rattle.ordered_json.specs.Steps.{Outcome, step, in_text, spell, is_no_low, char_of, two_bytes, three_bytes, four_bytes, is_second, is_tail, is_lead}
+use Rattle.ordered_json.specs.Steps.{Outcome, step, in_text, spell, is_no_low, char_of, two_bytes, three_bytes, four_bytes, is_second, is_tail, is_lead, hex_unit}
 use Rattle.ordered_json.proofs.Runs.{Answers, by_step, by_same, by_place, by_bytes, by_fault}
 use Rattle.ordered_json.proofs.Accept.{Answer}
 
@@ -230,3 +230,40 @@ coded_spells u h =
     (then (at.Hex2 u.first u.second) (rw (d.two, low) refl)
     (then (at.Hex3 u.first u.second u.third) (rw (d.three) refl)
     (last (rw (d.four, h.1) (scalar_char (unit_value u) (unit_value u) ok refl)))))))
+
+-- a surrogate pair
+paired_spells : (u v : CodeUnit) → IsChar (paired u v) → Spells at.Between (print_unit u ++ print_unit v) (pair_value (unit_value u) (unit_value v))
+paired_spells u v h =
+    let d = digits_of u h.0 in
+    let e = digits_of v h.1 in
+    let low = no_low (digit_value u.first) (digit_value u.second) (digit_value u.third) (digit_value u.fourth) (digit_below u.first d.one) (digit_below u.second d.two) (digit_below u.third d.three) (digit_below u.fourth d.four) (not_both (unit_value u) h.2) in
+    let begins = low_digits (digit_value v.first) (digit_value v.second) (digit_value v.third) (digit_value v.fourth) (digit_below v.first e.one) (digit_below v.second e.two) (digit_below v.third e.three) (digit_below v.fourth e.four) h.3 in
+    let ok = pair_scalar (unit_value u) (unit_value v) h.2 h.3 in
+    let w = hex_unit u.first u.second u.third u.fourth in
+    then at.Backslash refl
+    (then at.Hex0 refl
+    (then (at.Hex1 u.first) (rw (d.one) refl)
+    (then (at.Hex2 u.first u.second) (rw (d.two, low) refl)
+    (then (at.Hex3 u.first u.second u.third) (rw (d.three) refl)
+    (then (at.High w) (rw (d.four, h.2) refl)
+    (then (at.HighBackslash w) refl
+    (then (at.Low0 w) refl
+    (then (at.Low1 w v.first) (rw (begins.0) refl)
+    (then (at.Low2 w v.first v.second) (rw (e.two, begins.1) refl)
+    (then (at.Low3 w v.first v.second v.third) (rw (e.three) refl)
+    (last (rw (e.four, h.2, h.3) (scalar_char (pair_value (unit_value u) (unit_value v)) (pair_value (unit_value u) (unit_value v)) ok refl)))))))))))))
+
+char_spells : (c : Char) → IsChar c → Spells at.Between (print_char c) (char_value c)
+char_spells (plain c) h = plain_spells c h
+char_spells (escaped b) h = escaped_spells b h
+char_spells (coded u) h = coded_spells u h
+char_spells (paired u v) h = paired_spells u v h
+
+pub chars_read : (cs : List Char) → AreChars cs → {p q : ℕ} {k : Bool} {rest : List ℕ} {ls : List Level} {o : Option OrderedJson} {c : List ℕ} {x : Answer} → Answers (p + length (print_chars cs)) rest (Ok (text_state q k at.Between ls o (c ++ content cs))) x → Answers p (print_chars cs ++ rest) (Ok (text_state q k at.Between ls o c)) x
+chars_read [] h {p} {q} {k} {ls = ls} {o = o} {c = c} a = by_place {q = p + 0} (omega arith) (by_same (ap (λ d. Ok (text_state q k at.Between ls o d)) (sym (append-nil c))) a)
+chars_read (d ∷ ds) h {p} {q} {k} {rest} {ls} {o} {c} a =
+    by_bytes (append_assoc (print_char d) (print_chars ds) rest)
+    (spells_read (char_spells d h.0)
+    (chars_read ds h.1
+    (by_place {q = p + length (print_chars (d ∷ ds))} (omega (arith, length-append (print_char d) (print_chars ds)))
+    (by_same (ap (λ e. Ok (text_state q k at.Between ls o e)) (append_assoc c (encode_utf8 (char_value d)) (content ds))) a))))
