@@ -1,8 +1,7 @@
 -- Lengths of compact texts.
-use Rattle.std.proofs.Common.{◌≡◌, ℕ, ◌+◌, ◌≤◌, ◌<◌, List, [], ◌∷◌, ◌++◌, length, take, Bool, true, false, cond, nat_lt, sum_by, refl, ap, arith, length-append, rules}
+use Rattle.std.proofs.Common.{◌≡◌, ℕ, ◌+◌, List, length, Bool, true, false, cond, nat_lt, sum_by, refl, arith, length-append}
 use Rattle.std.proofs.lemmas.List.Concat.{length-flat_map}
-use Rattle.std.proofs.lemmas.List.{take_all}
-use Rattle.json.specs.Print.{escape_byte, escape_letter, quoted, escape}
+use Rattle.json.specs.Print.{escape_byte, escape_letter, quoted}
 
 length-choice : (short control : Bool) (a b c : List ℕ) (i j k : ℕ) → length a ≡ i → length b ≡ j → length c ≡ k → length (cond short a (cond control b c)) ≡ cond short i (cond control j k)
 length-choice true control a b c i j k p q r = p

@@ -1,4 +1,4 @@
-use Rattle.std.proofs.Common.{rules, cond}
+use Rattle.std.proofs.Common.{rules}
 use Rattle.xs_model.proofs.SizeLemmas.{length-escape_byte}
 use Rattle.xs_model.proofs.size.escaped_len.Goals as goal
 

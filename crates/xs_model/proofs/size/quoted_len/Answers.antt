@@ -1,4 +1,4 @@
-use Rattle.std.proofs.Common.{◌≡◌, arith, length, take}
+use Rattle.std.proofs.Common.{◌≡◌, arith, take, refl}
 use Rattle.std.proofs.lemmas.List.{take_all}
 use Rattle.xs_model.proofs.SizeLemmas.{length-quoted}
 use Rattle.xs_model.proofs.size.quoted_len.Goals as goal

@@ -2,7 +2,7 @@
 use Rattle.std.specs.Prelude.{◌≡◌, ℕ, List, [], ◌∷◌, map}
 use mathlib.Core.Path.{refl, sym, ap, subst}
 use mathlib.Core.Former.{Former, this, const, pair, list, via, children}
-use base.Stored.{code_map, coded×, coded_list, gcons}
+use base.Stored.{code_map, coded×, gcons}
 use denote.RattleType.{RattleType}
 use denote.Struct.Tuple.{Tuple, tuple_type}
 use denote.HoleLaws.{Alike}

@@ -1,5 +1,4 @@
 use Rattle.std.specs.List.Sorted.{IsStrictlySortedBy}
-use Rattle.std.proofs.Common.{rules}
 use Rattle.xs_model.proofs.fields.Entries.new.Goals as goal
 
 pub invariant_of-result : goal.invariant_of-result
