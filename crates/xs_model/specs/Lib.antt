@@ -1,2 +1,5 @@
 pub mod Compact
+pub mod Same
+pub mod Paths
+pub mod Eval
 pub mod formers
