@@ -33,10 +33,18 @@ layer_text (Value-F.Map members) = bracketed 123 125 (map member_text members)
 abbrev pub compact_text : Value → List ℕ
 compact_text = fold-Value (List ℕ) layer_text
 
+-- a key and its value, as "key":value
+abbrev pub keyed_text : List ℕ × Value → List ℕ
+keyed_text member = member_text (member.0, compact_text member.1)
+
+-- the greatest of these depths, 0 where there is none
+abbrev pub deepest : List ℕ → ℕ
+deepest depths = fold max 0 depths
+
 -- the nesting of a value whose parts nest so deep
 abbrev pub layer_nesting : Value-F ℕ → ℕ
-layer_nesting (Value-F.List members) = suc (fold max 0 members)
-layer_nesting (Value-F.Map members) = suc (fold max 0 (values_of members))
+layer_nesting (Value-F.List members) = suc (deepest members)
+layer_nesting (Value-F.Map members) = suc (deepest (values_of members))
 layer_nesting _ = 0
 
 -- how many lists and maps lie round the innermost part: 0 for a scalar, 1 for an empty list

@@ -3,7 +3,6 @@ use Rattle.std.specs.Prelude.{ℕ, ◌-◌, ◌^◌, Bool, true, false, not, ◌
 use Rattle.std.specs.Ordering.{nat_cmp, int_eq, is_lt, is_le}
 use Rattle.std.specs.Cmp.Lexicographic.{slice_cmp}
 use Rattle.std.specs.Fmt.{signed_decimal}
-use Rattle.std.specs.BTreeMap.{insert_entry}
 use Rattle.xs_model.specs.declared.env.Env.{Env}
 use Rattle.xs_model.specs.declared.env.EvalFault.{EvalFault}
 use Rattle.xs_model.specs.declared.env.EvalFault.TheVariants.{Missing, Kind, Range, TooLarge}
@@ -24,6 +23,7 @@ use Rattle.xs_model.specs.declared.value.Value.TheVariants as value
 use Rattle.xs_model.specs.declared.value.Value.TheOpen.{Value-F}
 use Rattle.xs_model.specs.Compact.{compact_text, nesting}
 use Rattle.xs_model.specs.Paths.{at_path}
+use Rattle.xs_model.specs.Rising.{put}
 use Rattle.xs_model.specs.Same.{same}
 
 -- a value or a fault
@@ -137,10 +137,6 @@ collect (Ok x ∷ rest) = one (collect rest) (λ xs. Ok (x ∷ xs))
 -- a key with what its part gives
 abbrev pub keyed : List ℕ × Outcome → Result (List ℕ × Value) EvalFault
 keyed part = one part.1 (λ x. Ok (part.0, x))
-
--- the members with x under the key, in the order of the keys' bytes
-abbrev pub put : {X : Type 0} → List (List ℕ × X) → List ℕ → X → List (List ℕ × X)
-put members key x = insert_entry (slice_cmp nat_cmp) members key x
 
 -- the members put one after another
 abbrev pub sorted : List (List ℕ × Value) → List (List ℕ × Value)

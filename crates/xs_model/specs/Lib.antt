@@ -1,3 +1,4 @@
+pub mod Rising
 pub mod Compact
 pub mod Same
 pub mod Paths

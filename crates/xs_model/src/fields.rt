@@ -1,4 +1,4 @@
-ghost use Rattle.std.specs.Prelude.{◌≡◌, [], length};
+ghost use Rattle.std.specs.Prelude.{◌≡◌, [], ◌==◌, length};
 
 use std::alloc::Global;
 use std::marker::Model;
@@ -12,11 +12,8 @@ pub struct Entries<T> {
 
 impl<T> Model for Entries<T> {
     ghost use Rattle.std.specs.Prelude.{List, ℕ};
-    ghost use Rattle.std.specs.Ordering.{nat_cmp};
     ghost use Rattle.std.specs.Coded.{coded_list, coded×, coded_ℕ};
-    ghost use Rattle.std.specs.Cmp.Lexicographic.{slice_cmp};
-    ghost use Rattle.std.specs.List.Sorted.{IsStrictlySortedBy};
-    ghost use Rattle.std.specs.Map.{keys_of};
+    ghost use Rattle.xs_model.specs.Rising.{KeysRise};
 
     ghost Value = { List (List ℕ × T) };
 
@@ -24,10 +21,12 @@ impl<T> Model for Entries<T> {
 
     ghost view = { λ fields. fields.pairs.items };
 
-    ghost invariant = { λ fields. IsStrictlySortedBy (slice_cmp nat_cmp) (keys_of fields.pairs.items) };
+    ghost invariant = { λ fields. KeysRise fields.pairs.items };
 }
 
 impl<T> Entries<T> {
+    ghost use Rattle.xs_model.specs.Rising.{KeysRise};
+
     /// The empty list. It takes no memory.
     pub fn new(alloc: Global) -> Entries<T>
         ensures { result ≡ [] }
@@ -42,5 +41,20 @@ impl<T> Entries<T> {
         ensures { result ≡ length self.now }
     {
         self.pairs.len()
+    }
+
+    /// Whether there is no pair.
+    pub fn is_empty(&self) -> bool
+        ensures { result ≡ (length self.now == 0) }
+    {
+        self.pairs.is_empty()
+    }
+
+    /// Lends the pairs, in the order of their keys.
+    pub fn as_slice(&self) -> &[(Text, T)]
+        ensures pairs { result.now ≡ self.now }
+        ensures sorted { KeysRise self.now }
+    {
+        self.pairs.as_slice()
     }
 }
