@@ -1,2 +1,3 @@
 pub mod SizeLemmas
 pub mod CompactLemmas
+pub mod RisingLemmas

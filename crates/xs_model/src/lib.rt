@@ -2,6 +2,7 @@
 #![tactic(auto)]
 
 mod action;
+mod copies;
 mod env;
 mod expr;
 mod fields;
@@ -10,10 +11,11 @@ mod size;
 mod value;
 
 pub use action::{Action, ActionItem, ActionItems, Target};
-pub use nesting::depth;
+pub use copies::copy;
 pub use env::{Env, EvalFault};
 pub use expr::{Arithmetic, Comparison, Connective, Division, Expr, Exprs, Parts, Source};
 pub use fields::Entries;
+pub use nesting::depth;
 pub use size::{quoted_len, text_len};
 pub use value::{Fields, Value, Values};
 pub use xs_data::Text;
