@@ -1,3 +1,4 @@
 pub mod SizeLemmas
 pub mod CompactLemmas
 pub mod RisingLemmas
+pub mod SameLemmas
