@@ -2,3 +2,4 @@ pub mod SizeLemmas
 pub mod CompactLemmas
 pub mod RisingLemmas
 pub mod SameLemmas
+pub mod PathLemmas
