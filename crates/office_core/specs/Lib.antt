@@ -1,0 +1,5 @@
+pub mod Flat
+pub mod Office
+pub mod View
+pub mod Plan
+pub mod Shown

@@ -1,0 +1,10 @@
+//! The office's core: flat machines, requests, and the office that decides them and steps its actors.
+#![tactic(auto)]
+
+mod flat;
+mod office;
+mod request;
+
+pub use flat::{FlatMachine, FlatMachines, FlatState, FlatStates, Move, Moves};
+pub use office::{Claim, Core, Event, FlatValue, Plan, Refused, StepRefused};
+pub use request::{Ask, Reply, Request, Word};
