@@ -3,3 +3,5 @@ pub mod Office
 pub mod View
 pub mod Plan
 pub mod Shown
+pub mod Runs
+pub mod Laws
