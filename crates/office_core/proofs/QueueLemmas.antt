@@ -348,7 +348,7 @@ abbrev shown_of : List FlatMachine → Option Actor → Shown
 shown_of machines actor = option_map_or (λ a. shown_state (slice_get machines a.machine) a.state) actor never
 
 -- there is an item at a place below the length
-get-within : {X : Type 0} (xs : List X) (k : ℕ) → k < length xs → IsSome (slice_get xs k)
+pub get-within : {X : Type 0} (xs : List X) (k : ℕ) → k < length xs → IsSome (slice_get xs k)
 get-within [] k within = absurd (omega arith)
 get-within (x ∷ xs) zero within = refl
 get-within (x ∷ xs) (suc k) within = get-within xs k (omega arith)

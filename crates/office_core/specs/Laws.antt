@@ -1,5 +1,5 @@
 -- The laws of the abstract office, over all runs from the empty office.
-use Rattle.std.specs.Prelude.{◌≡◌, ℕ, ◌+◌, ◌≤◌, Bool, List, [], ◌∷◌, ◌++◌, filter, fold, nat_eq, Option, None, Some, IfSome, slice_get}
+use Rattle.std.specs.Prelude.{◌≡◌, ℕ, ◌+◌, ◌≤◌, List, [], ◌∷◌, ◌++◌, filter, fold, nat_eq, Option, None, Some, IfSome, slice_get}
 use Rattle.std.specs.List.{list_any}
 use Rattle.office_core.specs.declared.flat.FlatMachine.{FlatMachine}
 use Rattle.office_core.specs.Office.{Letter, Actor, empty_office, actor_of, next_state}
