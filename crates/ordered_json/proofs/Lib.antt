@@ -5,3 +5,4 @@ pub mod Accept
 pub mod Numbers
 pub mod Strings
 pub mod Trees
+pub mod Texts

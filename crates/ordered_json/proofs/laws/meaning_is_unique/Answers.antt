@@ -1,4 +1,4 @@
-use Rattle.ordered_json.proofs.Trees.{key_refused}
+use Rattle.ordered_json.proofs.Texts.{answers_json}
 use Rattle.ordered_json.proofs.laws.meaning_is_unique.Goals as goal
 
 pub returns : goal.returns
