@@ -6,3 +6,4 @@ pub mod Numbers
 pub mod Strings
 pub mod Trees
 pub mod Texts
+pub mod Fronts
