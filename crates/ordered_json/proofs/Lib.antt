@@ -7,3 +7,5 @@ pub mod Strings
 pub mod Trees
 pub mod Texts
 pub mod Fronts
+pub mod Reached
+pub mod Spelled
