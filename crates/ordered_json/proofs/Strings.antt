@@ -65,13 +65,13 @@ no_low a b c d ha hb hc hd h = grind (arith, nat_tests)
 not_both : (n : ℕ) → is_high_surrogate n ≡ true → is_low_surrogate n ≡ false
 not_both n h = grind (arith, nat_tests)
 
-unit_scalar : (a b c d : ℕ) → a < 16 → b < 16 → c < 16 → d < 16 → is_high_surrogate (((a * 16 + b) * 16 + c) * 16 + d) ≡ false → is_low_surrogate (((a * 16 + b) * 16 + c) * 16 + d) ≡ false → IsScalar (((a * 16 + b) * 16 + c) * 16 + d)
+pub unit_scalar : (a b c d : ℕ) → a < 16 → b < 16 → c < 16 → d < 16 → is_high_surrogate (((a * 16 + b) * 16 + c) * 16 + d) ≡ false → is_low_surrogate (((a * 16 + b) * 16 + c) * 16 + d) ≡ false → IsScalar (((a * 16 + b) * 16 + c) * 16 + d)
 unit_scalar a b c d ha hb hc hd h l = grind (arith, nat_tests)
 
 low_digits : (a b c d : ℕ) → a < 16 → b < 16 → c < 16 → d < 16 → is_low_surrogate (((a * 16 + b) * 16 + c) * 16 + d) ≡ true → (a == 13 ≡ true) × (nat_le 12 b ≡ true)
 low_digits a b c d ha hb hc hd h = (grind (arith, nat_tests), grind (arith, nat_tests))
 
-pair_scalar : (h l : ℕ) → is_high_surrogate h ≡ true → is_low_surrogate l ≡ true → IsScalar (pair_value h l)
+pub pair_scalar : (h l : ℕ) → is_high_surrogate h ≡ true → is_low_surrogate l ≡ true → IsScalar (pair_value h l)
 pair_scalar h l hh hl = grind (arith, nat_tests)
 
 -- ---- UTF-8
