@@ -9,3 +9,5 @@ pub mod Texts
 pub mod Fronts
 pub mod Reached
 pub mod Spelled
+pub mod Fresh
+pub mod Values
