@@ -11,3 +11,4 @@ pub mod Reached
 pub mod Spelled
 pub mod Fresh
 pub mod Values
+pub mod Judged

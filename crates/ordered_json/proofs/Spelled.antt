@@ -162,7 +162,7 @@ plain_high v s h = (s, omega arith, grind (arith, nat_tests), grind (arith, nat_
 low_is_scalar : (v : ℕ) → v < 128 → IsScalar v
 low_is_scalar v h = is_scalar_in v (inl (omega arith))
 
-eq_at : (a b : ℕ) → a == b ≡ true → a ≡ b
+pub eq_at : (a b : ℕ) → a == b ≡ true → a ≡ b
 eq_at a b h = grind (arith, nat_tests)
 
 -- ---- code units

@@ -11,7 +11,7 @@ use Rattle.ordered_json.specs.declared.reader.Reader.{Reader}
 use Rattle.ordered_json.specs.Words.{key_of, member_of}
 use Rattle.ordered_json.specs.Grammar.{is_blank, Char, AreChars, IsSpace, print_string, Tree, null, array, object, Elements, no_elements, element, Members, no_members, member, print, print_elements, print_members, lead, colon, IsTree, AreElements, AreMembers, IsPrinted}
 use Rattle.ordered_json.specs.Meaning.{content, value_at, items_at, members_at, has_key, max_depth, IsTaken, ElementsTaken, MembersTaken, HasValue}
-use Rattle.ordered_json.specs.Faults.{BeginsFaultless}
+use Rattle.ordered_json.specs.Faults.{BeginsFaultless, AwaitsValue, AwaitsKey}
 use Rattle.ordered_json.proofs.States.{state, Ready, finished}
 use Rattle.ordered_json.proofs.Fronts.{Item, comma_after, print_items, AreItems, item_values, close, print-close, are-close, taken-close, values-close, Entry, comma_past, print_head, print_entries, entry_keys, AreEntries, key_place, entry_member, entry_values, close_members, keys-entries, print-close_members, are-close_members, taken-close_members, values-close_members}
 use Rattle.ordered_json.proofs.Reached.{ListText, ObjectText, ListAwaits, KeyAwaits, ColonAwaits, MemberAwaits, Awaits, space-snoc, snoc-two, awaits-blank, key_awaits-blank, colon_awaits-blank, awaits-ready, faultless-front, faultless-is, plug}
@@ -92,3 +92,106 @@ finished_after (level.Member p members key key_at ∷ ls) text a t h taken =
       };
       space = []; white = tt; printed = sym (append-nil (text ++ print t))
     })
+
+-- ---- arrays and objects that close
+-- the whole array, with white space before its closing bracket
+pub record ClosedList (ls : List Level) (p : ℕ) (items : List OrderedJson) (text : List ℕ) : Type 0 where
+  pub outer : List ℕ
+  pub stands : Awaits ls outer
+  pub tree : Tree
+  pub is_tree : IsTree tree
+  pub taken : IsTaken (length ls) tree
+  pub value : value_at (length outer) tree ≡ a_list p items
+  pub printed : text ++ 93 ∷ [] ≡ outer ++ print tree
+
+pub close_list_text : (ls : List Level) (p : ℕ) (items : List OrderedJson) (is : List Item) (front space text : List ℕ) → ListText (Awaits ls) (length ls) p items is front → IsSpace space → text ≡ front ++ space → ClosedList ls p items text
+close_list_text ls p items is front space text h white e =
+    let es = no_elements space in
+    record {
+      outer = h.outer; stands = h.stands; tree = array (close is es);
+      is_tree = are-close (suc (length ls)) is es h.are white;
+      taken = (h.room, taken-close (suc (length ls)) is es h.are tt);
+      value = ap (λ js. a_list (length h.outer) js) (values-close (length h.outer + 1) is es ∙ append-nil (item_values (length h.outer + 1) is))
+          ∙ (ap (λ n. a_list n (item_values (n + 1) is)) (sym h.place) ∙ ap (a_list p) (sym h.values));
+      printed = item_bytes h.outer (print_items is) space (93 ∷ []) front text 91 h.printed e ∙ ap (λ w. h.outer ++ 91 ∷ w) (sym (print-close is es))
+    }
+
+pub record ClosedObject (ls : List Level) (p : ℕ) (members : List Member) (text : List ℕ) : Type 0 where
+  pub outer : List ℕ
+  pub stands : Awaits ls outer
+  pub tree : Tree
+  pub is_tree : IsTree tree
+  pub taken : IsTaken (length ls) tree
+  pub value : value_at (length outer) tree ≡ Object p members
+  pub printed : text ++ 125 ∷ [] ≡ outer ++ print tree
+
+pub close_object_text : (ls : List Level) (p : ℕ) (members : List Member) (es : List Entry) (front space text : List ℕ) → ObjectText (Awaits ls) (length ls) p members es front → IsSpace space → text ≡ front ++ space → ClosedObject ls p members text
+close_object_text ls p members es front space text h white e =
+    let ms = no_members space in
+    record {
+      outer = h.outer; stands = h.stands; tree = object (close_members es ms);
+      is_tree = are-close_members (suc (length ls)) es ms h.are white;
+      taken = (h.room, taken-close_members (suc (length ls)) es ms h.are tt);
+      value = ap (λ js. Object (length h.outer) js) (values-close_members (length h.outer + 1) es ms ∙ append-nil (entry_values (length h.outer + 1) es))
+          ∙ (ap (λ n. Object n (entry_values (n + 1) es)) (sym h.place) ∙ ap (Object p) (sym h.values));
+      printed = item_bytes h.outer (print_entries es) space (125 ∷ []) front text 123 h.printed e ∙ ap (λ w. h.outer ++ 123 ∷ w) (sym (print-close_members es ms))
+    }
+
+pub closed_list_after : {ls : List Level} {p : ℕ} {items : List OrderedJson} (text : List ℕ) → ClosedList ls p items text → AfterValue (text ++ 93 ∷ []) (finished (a_list p items) ls None)
+closed_list_after {ls} {p} {items} text c =
+    subst (λ w. AfterValue w (finished (a_list p items) ls None)) (sym c.printed)
+    (subst (λ j. AfterValue (c.outer ++ print c.tree) (finished j ls None)) c.value (finished_after ls c.outer c.stands c.tree c.is_tree c.taken))
+
+pub closed_object_after : {ls : List Level} {p : ℕ} {members : List Member} (text : List ℕ) → ClosedObject ls p members text → AfterValue (text ++ 125 ∷ []) (finished (Object p members) ls None)
+closed_object_after {ls} {p} {members} text c =
+    subst (λ w. AfterValue w (finished (Object p members) ls None)) (sym c.printed)
+    (subst (λ j. AfterValue (c.outer ++ print c.tree) (finished j ls None)) c.value (finished_after ls c.outer c.stands c.tree c.is_tree c.taken))
+
+pub closed_list_faultless : {ls : List Level} {p : ℕ} {items : List OrderedJson} (text : List ℕ) → ClosedList ls p items text → BeginsFaultless text
+closed_list_faultless {ls} text c = faultless-front text (93 ∷ []) (faultless-is (c.outer ++ print c.tree) (text ++ 93 ∷ []) (sym c.printed) (plug ls c.outer c.stands c.tree c.is_tree c.taken))
+
+pub closed_object_faultless : {ls : List Level} {p : ℕ} {members : List Member} (text : List ℕ) → ClosedObject ls p members text → BeginsFaultless text
+closed_object_faultless {ls} text c = faultless-front text (125 ∷ []) (faultless-is (c.outer ++ print c.tree) (text ++ 125 ∷ []) (sym c.printed) (plug ls c.outer c.stands c.tree c.is_tree c.taken))
+
+pub item_after_closed : {ls : List Level} {p : ℕ} {items : List OrderedJson} (text : List ℕ) → ListAfter ls p items text → ClosedList ls p items text
+item_after_closed {ls} {p} {items} text a = close_list_text ls p items (a.last ∷ a.is) a.front a.space text a.inside a.white a.printed
+
+pub entry_after_closed : {ls : List Level} {p : ℕ} {members : List Member} (text : List ℕ) → ObjectAfter ls p members text → ClosedObject ls p members text
+entry_after_closed {ls} {p} {members} text a = close_object_text ls p members (a.last ∷ a.es) a.front a.space text a.inside a.white a.printed
+
+-- ---- how a text can go on
+pub awaits_faultless : (ls : List Level) (text : List ℕ) → Awaits ls text → BeginsFaultless text
+awaits_faultless ls text a = faultless-front text (print null) (plug ls text a null tt tt)
+
+named_awaits : (ls : List Level) {p : ℕ} {members : List Member} (text : List ℕ) (cs : List Char) → KeyAwaits (Awaits ls) (length ls) p members text → AreChars cs → has_key (content cs) (map key_of members) ≡ false → Awaits (level.Member p members (content cs) (length text) ∷ ls) (text ++ (print_string cs ++ 58 ∷ []))
+named_awaits ls text cs k are fresh = record {
+  before = text ++ print_string cs;
+  named = record { before = text; awaited = k; chars = cs; gap = []; are = are; fresh = fresh; white = tt; key_is = refl; place = refl; printed = ap (λ w. text ++ w) (sym (append-nil (print_string cs))) };
+  gap' = []; white' = tt; printed = sym (append_assoc text (print_string cs) (58 ∷ []))
+}
+
+pub named_faultless : (ls : List Level) {p : ℕ} {members : List Member} (text : List ℕ) (cs : List Char) → KeyAwaits (Awaits ls) (length ls) p members text → AreChars cs → has_key (content cs) (map key_of members) ≡ false → BeginsFaultless (text ++ (print_string cs ++ 58 ∷ []))
+named_faultless ls {p} {members} text cs k are fresh = awaits_faultless (level.Member p members (content cs) (length text) ∷ ls) (text ++ (print_string cs ++ 58 ∷ [])) (named_awaits ls text cs k are fresh)
+
+pub key_awaits_faultless : (ls : List Level) {p : ℕ} {members : List Member} (text : List ℕ) → KeyAwaits (Awaits ls) (length ls) p members text → BeginsFaultless text
+key_awaits_faultless ls {members = members} text k =
+    let f = fresh_after [] (map key_of members) in
+    faultless-front text (print_string f.more ++ 58 ∷ []) (named_faultless ls text f.more k f.are f.fresh)
+
+pub colon_awaits_faultless : (ls : List Level) {p : ℕ} {members : List Member} {key : List ℕ} {key_at : ℕ} (text : List ℕ) → ColonAwaits (Awaits ls) (length ls) p members key key_at text → BeginsFaultless text
+colon_awaits_faultless ls {p} {members} {key} {key_at} text c =
+    faultless-front text (58 ∷ []) (awaits_faultless (level.Member p members key key_at ∷ ls) (text ++ 58 ∷ []) (record { before = text; named = c; gap' = []; white' = tt; printed = refl }))
+
+pub after_faultless : (text : List ℕ) (r : Reader) → AfterValue text r → BeginsFaultless text
+after_faultless text r (after_all {json = json} h) = ([], json, subst (λ w. HasValue w json) (sym (append-nil text)) h)
+after_faultless text r (after_item a) = closed_list_faultless text (item_after_closed text a)
+after_faultless text r (after_entry a) = closed_object_faultless text (entry_after_closed text a)
+
+-- ---- the line feed that shows that nothing is half read
+pub awaits_value : (ls : List Level) (text : List ℕ) → Awaits ls text → AwaitsValue text
+awaits_value ls text a = faultless-is ((text ++ 10 ∷ []) ++ print null) (text ++ (10 ∷ print null)) (append_assoc text (10 ∷ []) (print null)) (plug ls (text ++ 10 ∷ []) (awaits-blank ls text 10 refl a) null tt tt)
+
+pub awaits_key : (ls : List Level) {p : ℕ} {members : List Member} (text : List ℕ) → KeyAwaits (Awaits ls) (length ls) p members text → AwaitsKey text
+awaits_key ls {members = members} text k =
+    let f = fresh_after [] (map key_of members) in
+    (f.more, f.are, faultless-is ((text ++ 10 ∷ []) ++ (print_string f.more ++ 58 ∷ [])) (text ++ (10 ∷ (print_string f.more ++ 58 ∷ []))) (append_assoc text (10 ∷ []) (print_string f.more ++ 58 ∷ [])) (named_faultless ls (text ++ 10 ∷ []) f.more (key_awaits-blank text 10 refl k) f.are f.fresh))
