@@ -105,22 +105,22 @@ abbrev pub Judges : List ℕ → ℕ → Outcome → Type 0
 Judges text b (Ok r) = Reached (text ++ b ∷ []) r
 Judges text b (Err fault) = Shows text b fault
 
-test_judged : (text : List ℕ) (b : ℕ) (x y : Outcome) (t : Bool) → (t ≡ true → Judges text b x) → (t ≡ false → Judges text b y) → Judges text b (cond t x y)
+pub test_judged : (text : List ℕ) (b : ℕ) (x y : Outcome) (t : Bool) → (t ≡ true → Judges text b x) → (t ≡ false → Judges text b y) → Judges text b (cond t x y)
 test_judged text b x y true h k = h refl
 test_judged text b x y false h k = k refl
 
 -- the same outcome
-judged_as : (text : List ℕ) (b : ℕ) (x y : Outcome) → x ≡ y → Judges text b y → Judges text b x
+pub judged_as : (text : List ℕ) (b : ℕ) (x y : Outcome) → x ≡ y → Judges text b y → Judges text b x
 judged_as text b x y e h = subst (Judges text b) (sym e) h
 
-syntax_at : (text : List ℕ) (b : ℕ) → BeginsFaultless text → Judges text b (Err (Syntax (length text)))
+pub syntax_at : (text : List ℕ) (b : ℕ) → BeginsFaultless text → Judges text b (Err (Syntax (length text)))
 syntax_at text b h = (refl, h)
 
-one_more : (text : List ℕ) (b c : ℕ) → b == c ≡ true → text ++ b ∷ [] ≡ text ++ c ∷ []
+pub one_more : (text : List ℕ) (b c : ℕ) → b == c ≡ true → text ++ b ∷ [] ≡ text ++ c ∷ []
 one_more text b c e = ap (λ n. text ++ n ∷ []) (eq_at b c e)
 
 -- ---- the first byte of a value
-too_deep : (ls : List Level) (text : List ℕ) (b : ℕ) → Awaits ls text → (b ≡ 91) ⊎ (b ≡ 123) → (rest : List ℕ) → (BeginsFaultless (text ++ b ∷ []) → ⊥) → IsTooDeep (text ++ b ∷ rest) (length text)
+pub too_deep : (ls : List Level) (text : List ℕ) (b : ℕ) → Awaits ls text → (b ≡ 91) ⊎ (b ≡ 123) → (rest : List ℕ) → (BeginsFaultless (text ++ b ∷ []) → ⊥) → IsTooDeep (text ++ b ∷ rest) (length text)
 too_deep ls text b a opens rest refused = record {
   bracket = b; rest = rest; within = omega (arith, length-append text (b ∷ rest)); opens = opens;
   stands = drop-append_seam text (b ∷ rest);
@@ -150,7 +150,7 @@ scalar_judged m ls text b a =
     (λ e. subst (λ k. Reached (text ++ b ∷ []) (state (mode.Digits p false k) ls None)) (small_digit b e) (r_digits b [] (record { before = text; stands = a; place = refl; printed = refl }) n (e, tt)))
     (λ n. syntax_at text b (awaits_faultless ls text a)))))))
 
-begin_judged : (m : Mode) (ls : List Level) (text : List ℕ) (b : ℕ) → Awaits ls text → Judges text b (begin_value (length text) b (state m ls None))
+pub begin_judged : (m : Mode) (ls : List Level) (text : List ℕ) (b : ℕ) → Awaits ls text → Judges text b (begin_value (length text) b (state m ls None))
 unfolding begin_value
 begin_judged m ls text b a =
     let p = length text in
@@ -168,7 +168,7 @@ begin_judged m ls text b a =
     (λ n. scalar_judged m ls text b a)))
 
 -- ---- keys
-key_judged : (m : Mode) (ls : List Level) (q : ℕ) (members : List Member) (text : List ℕ) (b : ℕ) → KeyAwaits (Awaits ls) (length ls) q members text → Judges text b (begin_key (length text) b (state m (level.Object q members ∷ ls) None))
+pub key_judged : (m : Mode) (ls : List Level) (q : ℕ) (members : List Member) (text : List ℕ) (b : ℕ) → KeyAwaits (Awaits ls) (length ls) q members text → Judges text b (begin_key (length text) b (state m (level.Object q members ∷ ls) None))
 key_judged m ls q members text b k =
     test_judged text b (go (mode.Text (length text) true at.Between) (state m (level.Object q members ∷ ls) None)) (Err (Syntax (length text))) (b == 34)
     (λ e. r_key_text (record { before = text; stands = k; place = refl; chars = []; are = tt; content_is = refl; spelling = tt; printed = one_more text b 34 e }))
@@ -178,40 +178,40 @@ key_judged m ls q members text b k =
 first_printed : (outer space : List ℕ) (bracket : ℕ) → outer ++ bracket ∷ space ≡ (outer ++ bracket ∷ []) ++ (space ++ [])
 first_printed outer space bracket = sym (append_assoc outer (bracket ∷ []) (space ++ []) ∙ ap (λ w. outer ++ bracket ∷ w) (append-nil space))
 
-first_awaits : (ls : List Level) (p : ℕ) (text : List ℕ) → FirstOf 91 ls p text → Awaits (level.List p [] ∷ ls) text
+pub first_awaits : (ls : List Level) (p : ℕ) (text : List ℕ) → FirstOf 91 ls p text → Awaits (level.List p [] ∷ ls) text
 first_awaits ls p text f = record {
   is = []; front = f.outer ++ 91 ∷ [];
   inside = record { outer = f.outer; stands = f.stands; place = f.place; room = f.room; are = tt; values = refl; printed = refl };
   space = f.space; space' = []; white = f.white; white' = tt; printed = f.printed ∙ first_printed f.outer f.space 91
 }
 
-first_key_awaits : (ls : List Level) (p : ℕ) (text : List ℕ) → FirstOf 123 ls p text → KeyAwaits (Awaits ls) (length ls) p [] text
+pub first_key_awaits : (ls : List Level) (p : ℕ) (text : List ℕ) → FirstOf 123 ls p text → KeyAwaits (Awaits ls) (length ls) p [] text
 first_key_awaits ls p text f = record {
   es = []; front = f.outer ++ 123 ∷ [];
   inside = record { outer = f.outer; stands = f.stands; place = f.place; room = f.room; are = tt; values = refl; printed = refl };
   space = f.space; space' = []; white = f.white; white' = tt; printed = f.printed ∙ first_printed f.outer f.space 123
 }
 
-first_blank : {bracket : ℕ} {ls : List Level} {p : ℕ} (text : List ℕ) (b : ℕ) → is_blank b ≡ true → FirstOf bracket ls p text → FirstOf bracket ls p (text ++ b ∷ [])
+pub first_blank : {bracket : ℕ} {ls : List Level} {p : ℕ} (text : List ℕ) (b : ℕ) → is_blank b ≡ true → FirstOf bracket ls p text → FirstOf bracket ls p (text ++ b ∷ [])
 first_blank {bracket} text b e f = record {
   outer = f.outer; stands = f.stands; place = f.place; room = f.room; space = f.space ++ b ∷ []; white = space-snoc f.space b f.white e;
   printed = ap (λ w. w ++ b ∷ []) f.printed ∙ append_assoc f.outer (bracket ∷ f.space) (b ∷ [])
 }
 
-first_closed : (ls : List Level) (p : ℕ) (text : List ℕ) → FirstOf 91 ls p text → ClosedList ls p [] text
+pub first_closed : (ls : List Level) (p : ℕ) (text : List ℕ) → FirstOf 91 ls p text → ClosedList ls p [] text
 first_closed ls p text f = close_list_text ls p [] [] (f.outer ++ 91 ∷ []) f.space text (record { outer = f.outer; stands = f.stands; place = f.place; room = f.room; are = tt; values = refl; printed = refl }) f.white (f.printed ∙ sym (append_assoc f.outer (91 ∷ []) f.space))
 
-first_closed_object : (ls : List Level) (p : ℕ) (text : List ℕ) → FirstOf 123 ls p text → ClosedObject ls p [] text
+pub first_closed_object : (ls : List Level) (p : ℕ) (text : List ℕ) → FirstOf 123 ls p text → ClosedObject ls p [] text
 first_closed_object ls p text f = close_object_text ls p [] [] (f.outer ++ 123 ∷ []) f.space text (record { outer = f.outer; stands = f.stands; place = f.place; room = f.room; are = tt; values = refl; printed = refl }) f.white (f.printed ∙ sym (append_assoc f.outer (123 ∷ []) f.space))
 
 -- ---- closing brackets
-list_judged : (m : Mode) (ls : List Level) (p : ℕ) (items : List OrderedJson) (text : List ℕ) (b : ℕ) → b == 93 ≡ true → ClosedList ls p items text → Judges text b (close_list (length text) (state m (level.List p items ∷ ls) None))
+pub list_judged : (m : Mode) (ls : List Level) (p : ℕ) (items : List OrderedJson) (text : List ℕ) (b : ℕ) → b == 93 ≡ true → ClosedList ls p items text → Judges text b (close_list (length text) (state m (level.List p items ∷ ls) None))
 unfolding close_list
 list_judged m ls p items text b e c =
     judged_as text b (complete (length text) (a_list p items) (state m ls None)) (Ok (finished (a_list p items) ls None)) (complete_ready (length text) (a_list p items) m ls None (awaits-ready ls c.outer c.stands))
     (r_after (subst (λ w. AfterValue w (finished (a_list p items) ls None)) (sym (one_more text b 93 e)) (closed_list_after text c)))
 
-object_judged : (m : Mode) (ls : List Level) (p : ℕ) (members : List Member) (text : List ℕ) (b : ℕ) → b == 125 ≡ true → ClosedObject ls p members text → Judges text b (close_object (length text) (state m (level.Object p members ∷ ls) None))
+pub object_judged : (m : Mode) (ls : List Level) (p : ℕ) (members : List Member) (text : List ℕ) (b : ℕ) → b == 125 ≡ true → ClosedObject ls p members text → Judges text b (close_object (length text) (state m (level.Object p members ∷ ls) None))
 unfolding close_object
 object_judged m ls p members text b e c =
     judged_as text b (complete (length text) (Object p members) (state m ls None)) (Ok (finished (Object p members) ls None)) (complete_ready (length text) (Object p members) m ls None (awaits-ready ls c.outer c.stands))
@@ -225,7 +225,7 @@ after_blank text b r e (after_all {json = json} h) =
 after_blank text b r e (after_item a) = after_item (record { last = a.last; is = a.is; front = a.front; inside = a.inside; space = a.space ++ b ∷ []; white = space-snoc a.space b a.white e; printed = ap (λ w. w ++ b ∷ []) a.printed ∙ snoc-two a.front a.space b })
 after_blank text b r e (after_entry a) = after_entry (record { last = a.last; es = a.es; front = a.front; inside = a.inside; space = a.space ++ b ∷ []; white = space-snoc a.space b a.white e; printed = ap (λ w. w ++ b ∷ []) a.printed ∙ snoc-two a.front a.space b })
 
-after_judged : (text : List ℕ) (b : ℕ) (r : Reader) → AfterValue text r → Judges text b (between (length text) b r)
+pub after_judged : (text : List ℕ) (b : ℕ) (r : Reader) → AfterValue text r → Judges text b (between (length text) b r)
 unfolding between next
 after_judged text b r (after_all {json = json} h) =
     let s = state mode.After [] (Some json) in
@@ -284,7 +284,7 @@ word_means word.Null p = refl
 word_means word.True p = refl
 word_means word.False p = refl
 
-word_faultless : (ls : List Level) (p : ℕ) (w : Word) (n : ℕ) (text : List ℕ) → WordText ls p w n text → BeginsFaultless text
+pub word_faultless : (ls : List Level) (p : ℕ) (w : Word) (n : ℕ) (text : List ℕ) → WordText ls p w n text → BeginsFaultless text
 word_faultless ls p w n text h =
     faultless-front text (drop n (word_text w)) (faultless-is (h.before ++ print (word_tree w)) (text ++ drop n (word_text w))
     (ap (λ x. h.before ++ x) (word_print w ∙ sym (take-append-drop n (word_text w))) ∙ (sym (append_assoc h.before (take n (word_text w)) (drop n (word_text w))) ∙ ap (λ x. x ++ drop n (word_text w)) (sym h.printed)))
@@ -294,7 +294,7 @@ and_both : (x y : Bool) → (x && y) ≡ true → (x ≡ true) × (y ≡ true)
 and_both true y e = (refl, e)
 and_both false y e = cc
 
-word_judged : (ls : List Level) (p : ℕ) (w : Word) (n : ℕ) (text : List ℕ) (b : ℕ) → WordText ls p w n text → Judges text b (in_word (length text) p w n b (state (mode.Word p w n) ls None))
+pub word_judged : (ls : List Level) (p : ℕ) (w : Word) (n : ℕ) (text : List ℕ) (b : ℕ) → WordText ls p w n text → Judges text b (in_word (length text) p w n b (state (mode.Word p w n) ls None))
 unfolding in_word
 word_judged ls p w n text b h =
     let r = state (mode.Word p w n) ls None in
@@ -319,11 +319,11 @@ word_judged ls p w n text b h =
     short_of k m l e = grind (arith, nat_tests)
 
 -- ---- numbers
-fold-snoc : (ds : List ℕ) (n b : ℕ) → fold grow n (ds ++ b ∷ []) ≡ grow (fold grow n ds) b
+pub fold-snoc : (ds : List ℕ) (n b : ℕ) → fold grow n (ds ++ b ∷ []) ≡ grow (fold grow n ds) b
 fold-snoc [] n b = refl
 fold-snoc (d ∷ ds) n b = fold-snoc ds (grow n d) b
 
-digits-snoc : (ds : List ℕ) (b : ℕ) → AreDigits ds → is_decimal b ≡ true → AreDigits (ds ++ b ∷ [])
+pub digits-snoc : (ds : List ℕ) (b : ℕ) → AreDigits ds → is_decimal b ≡ true → AreDigits (ds ++ b ∷ [])
 digits-snoc [] b h e = (e, tt)
 digits-snoc (d ∷ ds) b h e = (h.0, digits-snoc ds b h.1 e)
 
@@ -331,10 +331,10 @@ signed-snoc : (minus : Bool) (ds : List ℕ) (b : ℕ) → signed minus ds ++ b 
 signed-snoc true ds b = refl
 signed-snoc false ds b = refl
 
-number_more : {ls : List Level} {p : ℕ} {minus : Bool} {ds : List ℕ} (text : List ℕ) (b : ℕ) → NumberText ls p minus ds text → NumberText ls p minus (ds ++ b ∷ []) (text ++ b ∷ [])
+pub number_more : {ls : List Level} {p : ℕ} {minus : Bool} {ds : List ℕ} (text : List ℕ) (b : ℕ) → NumberText ls p minus ds text → NumberText ls p minus (ds ++ b ∷ []) (text ++ b ∷ [])
 number_more {minus = minus} {ds} text b h = record { before = h.before; stands = h.stands; place = h.place; printed = ap (λ w. w ++ b ∷ []) h.printed ∙ (append_assoc h.before (signed minus ds) (b ∷ []) ∙ ap (λ w. h.before ++ w) (signed-snoc minus ds b)) }
 
-number_stands : (ls : List Level) (p : ℕ) (minus : Bool) (ds : List ℕ) (text rest : List ℕ) → NumberText ls p minus ds text → IsWhole ds → HasNumber (text ++ rest) p minus ds rest
+pub number_stands : (ls : List Level) (p : ℕ) (minus : Bool) (ds : List ℕ) (text rest : List ℕ) → NumberText ls p minus ds text → IsWhole ds → HasNumber (text ++ rest) p minus ds rest
 number_stands ls p minus ds text rest h whole =
     let bytes : text ++ rest ≡ h.before ++ (signed minus ds ++ rest) = ap (λ w. w ++ rest) h.printed ∙ append_assoc h.before (signed minus ds) rest in
     record {
@@ -347,13 +347,13 @@ number_stands ls p minus ds text rest h whole =
 number_bytes : (minus : Bool) (ds : List ℕ) → print (number minus ds [] []) ≡ signed minus ds
 number_bytes minus ds = append-nil (signed minus ds)
 
-number_after : (ls : List Level) (p : ℕ) (minus : Bool) (ds : List ℕ) (text : List ℕ) → NumberText ls p minus ds text → IsWhole ds → fits minus (magnitude ds) ≡ true → AfterValue text (finished (Int p (int_value minus (magnitude ds))) ls None)
+pub number_after : (ls : List Level) (p : ℕ) (minus : Bool) (ds : List ℕ) (text : List ℕ) → NumberText ls p minus ds text → IsWhole ds → fits minus (magnitude ds) ≡ true → AfterValue text (finished (Int p (int_value minus (magnitude ds))) ls None)
 number_after ls p minus ds text h whole fit =
     subst (λ w. AfterValue w (finished (Int p (int_value minus (magnitude ds))) ls None)) (ap (λ w. h.before ++ w) (number_bytes minus ds) ∙ sym h.printed)
     (subst (λ n. AfterValue (h.before ++ print (number minus ds [] [])) (finished (Int n (int_value minus (magnitude ds))) ls None)) (sym h.place)
     (finished_after ls h.before h.stands (number minus ds [] []) (whole, tt, tt) (refl, refl, fit)))
 
-digits_judged : (m : Mode) (ls : List Level) (p : ℕ) (minus : Bool) (ds : List ℕ) (text : List ℕ) (b : ℕ) → NumberText ls p minus ds text → IsWhole ds → (is_decimal b ≡ false) ⊎ (fits minus (magnitude ds) ≡ true) → Judges text b (after_digits (length text) p minus (sat (magnitude ds)) b (state m ls None))
+pub digits_judged : (m : Mode) (ls : List Level) (p : ℕ) (minus : Bool) (ds : List ℕ) (text : List ℕ) (b : ℕ) → NumberText ls p minus ds text → IsWhole ds → (is_decimal b ≡ false) ⊎ (fits minus (magnitude ds) ≡ true) → Judges text b (after_digits (length text) p minus (sat (magnitude ds)) b (state m ls None))
 unfolding after_digits
 digits_judged m ls p minus ds text b h whole side =
     test_judged text b (Err (Fraction p)) (and_then (end_number (length text) p minus (sat (magnitude ds)) (state m ls None)) (between (length text) b)) (is_mark b)
@@ -373,13 +373,13 @@ digits_judged m ls p minus ds text b h whole side =
         ends : is_decimal b || is_mark b ≡ false
         ends = elim side as (λ _. is_decimal b || is_mark b ≡ false) [ inl d ↦ rw (d, unmarked) refl | inr f ↦ absurd (let clash : true ≡ false = sym f ∙ e in cc) ]
 
-minus_faultless : (ls : List Level) (p : ℕ) (text : List ℕ) → NumberText ls p true [] text → BeginsFaultless text
+pub minus_faultless : (ls : List Level) (p : ℕ) (text : List ℕ) → NumberText ls p true [] text → BeginsFaultless text
 minus_faultless ls p text h =
     faultless-front text (48 ∷ []) (faultless-is (h.before ++ print (number true (48 ∷ []) [] [])) (text ++ 48 ∷ [])
     (sym (ap (λ w. w ++ 48 ∷ []) h.printed ∙ append_assoc h.before (45 ∷ []) (48 ∷ [])))
     (plug ls h.before h.stands (number true (48 ∷ []) [] []) (inl (refl, refl), tt, tt) (refl, refl, refl)))
 
-minus_judged : (ls : List Level) (p : ℕ) (text : List ℕ) (b : ℕ) → NumberText ls p true [] text → Judges text b (after_minus (length text) p b (state (mode.Minus p) ls None))
+pub minus_judged : (ls : List Level) (p : ℕ) (text : List ℕ) (b : ℕ) → NumberText ls p true [] text → Judges text b (after_minus (length text) p b (state (mode.Minus p) ls None))
 unfolding after_minus
 minus_judged ls p text b h =
     let r = state (mode.Minus p) ls None in

@@ -12,3 +12,4 @@ pub mod Spelled
 pub mod Fresh
 pub mod Values
 pub mod Judged
+pub mod Soundness

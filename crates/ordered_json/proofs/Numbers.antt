@@ -23,7 +23,7 @@ sat n = min n (2 ^ 64 - 1)
 abbrev pub grow : ℕ → ℕ → ℕ
 grow n b = n * 10 + (b - 48)
 
-sat-grow : (n d : ℕ) → min (min (sat n * 10) (2 ^ 64 - 1) + d) (2 ^ 64 - 1) ≡ sat (n * 10 + d)
+pub sat-grow : (n d : ℕ) → min (min (sat n * 10) (2 ^ 64 - 1) + d) (2 ^ 64 - 1) ≡ sat (n * 10 + d)
 sat-grow n d = omega arith
 
 fits-sat : (minus : Bool) (n : ℕ) → fits minus (sat n) ≡ fits minus n
