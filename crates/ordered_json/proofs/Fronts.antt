@@ -61,10 +61,13 @@ values-close p (i ∷ is) es =
   where
     front : List ℕ
     front = lead i.space (comma_after is) i.space'
+
     at : ℕ
     at = p + length (print_items is ++ lead i.space (comma_after is) i.space')
+
     start : p + length (print_items is) + length (lead i.space (comma_after is) i.space') ≡ p + length (print_items is ++ lead i.space (comma_after is) i.space')
     start = omega (arith, length-append (print_items is) (lead i.space (comma_after is) i.space'))
+
     end : p + length (print_items is ++ lead i.space (comma_after is) i.space') + length (print i.tree) ≡ p + length (print_items (i ∷ is))
     end = omega (arith, length-append (print_items is) (lead i.space (comma_after is) i.space'), length-append (print_items is) (lead i.space (comma_after is) i.space' ++ print i.tree), length-append (lead i.space (comma_after is) i.space') (print i.tree))
 
@@ -152,11 +155,15 @@ values-close_members p (e ∷ es) ms =
   where
     gap : ℕ
     gap = length (print_string e.key ++ colon e.gap e.gap')
+
     before : ℕ
     before = p + length (print_entries es ++ print_head e.space (comma_past es) e.space' e.key e.gap e.gap')
+
     start : p + length (print_entries es) + length (lead e.space (comma_past es) e.space') ≡ key_place p es e.space e.space'
     start = omega (arith, length-append (print_entries es) (lead e.space (comma_past es) e.space'))
+
     middle : key_place p es e.space e.space' + length (print_string e.key ++ colon e.gap e.gap') ≡ p + length (print_entries es ++ print_head e.space (comma_past es) e.space' e.key e.gap e.gap')
     middle = omega (arith, length-append (print_entries es) (lead e.space (comma_past es) e.space'), length-append (print_entries es) (print_head e.space (comma_past es) e.space' e.key e.gap e.gap'), length-append (lead e.space (comma_past es) e.space') (print_string e.key ++ colon e.gap e.gap'))
+
     end : p + length (print_entries es ++ print_head e.space (comma_past es) e.space' e.key e.gap e.gap') + length (print e.tree) ≡ p + length (print_entries (e ∷ es))
     end = omega (arith, length-append (print_entries es) (print_head e.space (comma_past es) e.space' e.key e.gap e.gap'), length-append (print_entries es) (print_head e.space (comma_past es) e.space' e.key e.gap e.gap' ++ print e.tree), length-append (print_head e.space (comma_past es) e.space' e.key e.gap e.gap') (print e.tree))

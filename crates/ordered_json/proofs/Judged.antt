@@ -122,10 +122,13 @@ one_more text b c e = ap (λ n. text ++ n ∷ []) (eq_at b c e)
 -- ---- the first byte of a value
 pub too_deep : (ls : List Level) (text : List ℕ) (b : ℕ) → Awaits ls text → (b ≡ 91) ⊎ (b ≡ 123) → (rest : List ℕ) → (BeginsFaultless (text ++ b ∷ []) → ⊥) → IsTooDeep (text ++ b ∷ rest) (length text)
 too_deep ls text b a opens rest refused = record {
-  bracket = b; rest = rest; within = omega (arith, length-append text (b ∷ rest)); opens = opens;
+  bracket = b;
+  rest = rest;
+  within = omega (arith, length-append text (b ∷ rest));
+  opens = opens;
   stands = drop-append_seam text (b ∷ rest);
   awaited = subst AwaitsValue (sym (take-append_seam text (b ∷ rest))) (awaits_value ls text a);
-  too_deep = λ h. refused (subst (λ w. BeginsFaultless (w ++ b ∷ [])) (take-append_seam text (b ∷ rest)) h)
+  too_deep = λ h. refused (subst (λ w. BeginsFaultless (w ++ b ∷ [])) (take-append_seam text (b ∷ rest)) h);
 }
 
 go_test : (text : List ℕ) (b : ℕ) (r : Reader) (x y : Result Mode JsonFault) (t : Bool) → (t ≡ true → Judges text b (go_if x r)) → (t ≡ false → Judges text b (go_if y r)) → Judges text b (go_if (cond t x y) r)
@@ -159,12 +162,12 @@ begin_judged m ls text b a =
     (λ e. r_text (record { before = text; stands = a; place = refl; chars = []; are = tt; content_is = refl; spelling = tt; printed = one_more text b 34 e }))
     (λ n. test_judged text b (open_level p (level.List p []) mode.FirstItem r) (cond (b == 123) (open_level p (level.Object p []) mode.FirstKey r) (go_if (scalar_mode p b) r)) (b == 91)
     (λ e. test_judged text b (Ok (record r { levels = level.List p [] ∷ ls; mode = mode.FirstItem })) (Err (TooDeep p)) (nat_lt (length ls) max_depth)
-        (λ l. r_first_item (record { outer = text; stands = a; place = refl; room = below (length ls) max_depth l; space = []; white = tt; printed = one_more text b 91 e }))
-        (λ l. too_deep ls text b a (inl (eq_at b 91 e))))
+    (λ l. r_first_item (record { outer = text; stands = a; place = refl; room = below (length ls) max_depth l; space = []; white = tt; printed = one_more text b 91 e }))
+    (λ l. too_deep ls text b a (inl (eq_at b 91 e))))
     (λ n. test_judged text b (open_level p (level.Object p []) mode.FirstKey r) (go_if (scalar_mode p b) r) (b == 123)
     (λ e. test_judged text b (Ok (record r { levels = level.Object p [] ∷ ls; mode = mode.FirstKey })) (Err (TooDeep p)) (nat_lt (length ls) max_depth)
-        (λ l. r_first_key (record { outer = text; stands = a; place = refl; room = below (length ls) max_depth l; space = []; white = tt; printed = one_more text b 123 e }))
-        (λ l. too_deep ls text b a (inr (eq_at b 123 e))))
+    (λ l. r_first_key (record { outer = text; stands = a; place = refl; room = below (length ls) max_depth l; space = []; white = tt; printed = one_more text b 123 e }))
+    (λ l. too_deep ls text b a (inr (eq_at b 123 e))))
     (λ n. scalar_judged m ls text b a)))
 
 -- ---- keys
@@ -180,22 +183,37 @@ first_printed outer space bracket = sym (append_assoc outer (bracket ∷ []) (sp
 
 pub first_awaits : (ls : List Level) (p : ℕ) (text : List ℕ) → FirstOf 91 ls p text → Awaits (level.List p [] ∷ ls) text
 first_awaits ls p text f = record {
-  is = []; front = f.outer ++ 91 ∷ [];
+  is = [];
+  front = f.outer ++ 91 ∷ [];
   inside = record { outer = f.outer; stands = f.stands; place = f.place; room = f.room; are = tt; values = refl; printed = refl };
-  space = f.space; space' = []; white = f.white; white' = tt; printed = f.printed ∙ first_printed f.outer f.space 91
+  space = f.space;
+  space' = [];
+  white = f.white;
+  white' = tt;
+  printed = f.printed ∙ first_printed f.outer f.space 91;
 }
 
 pub first_key_awaits : (ls : List Level) (p : ℕ) (text : List ℕ) → FirstOf 123 ls p text → KeyAwaits (Awaits ls) (length ls) p [] text
 first_key_awaits ls p text f = record {
-  es = []; front = f.outer ++ 123 ∷ [];
+  es = [];
+  front = f.outer ++ 123 ∷ [];
   inside = record { outer = f.outer; stands = f.stands; place = f.place; room = f.room; are = tt; values = refl; printed = refl };
-  space = f.space; space' = []; white = f.white; white' = tt; printed = f.printed ∙ first_printed f.outer f.space 123
+  space = f.space;
+  space' = [];
+  white = f.white;
+  white' = tt;
+  printed = f.printed ∙ first_printed f.outer f.space 123;
 }
 
 pub first_blank : {bracket : ℕ} {ls : List Level} {p : ℕ} (text : List ℕ) (b : ℕ) → is_blank b ≡ true → FirstOf bracket ls p text → FirstOf bracket ls p (text ++ b ∷ [])
 first_blank {bracket} text b e f = record {
-  outer = f.outer; stands = f.stands; place = f.place; room = f.room; space = f.space ++ b ∷ []; white = space-snoc f.space b f.white e;
-  printed = ap (λ w. w ++ b ∷ []) f.printed ∙ append_assoc f.outer (bracket ∷ f.space) (b ∷ [])
+  outer = f.outer;
+  stands = f.stands;
+  place = f.place;
+  room = f.room;
+  space = f.space ++ b ∷ [];
+  white = space-snoc f.space b f.white e;
+  printed = ap (λ w. w ++ b ∷ []) f.printed ∙ append_assoc f.outer (bracket ∷ f.space) (b ∷ []);
 }
 
 pub first_closed : (ls : List Level) (p : ℕ) (text : List ℕ) → FirstOf 91 ls p text → ClosedList ls p [] text
@@ -241,7 +259,7 @@ after_judged text b r (after_item {ls} {p} {items} a) =
     test_judged text b (Ok s) (cond (b == 44) (go mode.Value s) (cond (b == 93) (close_list (length text) s) (cond (b == 125) (close_object (length text) s) (Err (Syntax (length text)))))) (is_blank b)
     (λ e. r_after (after_blank text b s e (after_item a)))
     (λ n. test_judged text b (go mode.Value s) (cond (b == 93) (close_list (length text) s) (cond (b == 125) (close_object (length text) s) (Err (Syntax (length text))))) (b == 44)
-        (λ e. r_value {ls = level.List p items ∷ ls} (record { is = a.last ∷ a.is; front = a.front; inside = a.inside; space = a.space; space' = []; white = a.white; white' = tt; printed = one_more text b 44 e ∙ (ap (λ w. w ++ 44 ∷ []) a.printed ∙ append_assoc a.front a.space (44 ∷ [])) }))
+    (λ e. r_value {ls = level.List p items ∷ ls} (record { is = a.last ∷ a.is; front = a.front; inside = a.inside; space = a.space; space' = []; white = a.white; white' = tt; printed = one_more text b 44 e ∙ (ap (λ w. w ++ 44 ∷ []) a.printed ∙ append_assoc a.front a.space (44 ∷ [])) }))
     (λ n. test_judged text b (close_list (length text) s) (cond (b == 125) (close_object (length text) s) (Err (Syntax (length text)))) (b == 93) (λ e. list_judged mode.After ls p items text b e (item_after_closed text a))
     (λ n. test_judged text b (close_object (length text) s) (Err (Syntax (length text))) (b == 125) (λ e. unfold close_object in no) (λ n. no))))
 after_judged text b r (after_entry {ls} {p} {members} a) =
@@ -250,7 +268,7 @@ after_judged text b r (after_entry {ls} {p} {members} a) =
     test_judged text b (Ok s) (cond (b == 44) (go mode.Key s) (cond (b == 93) (close_list (length text) s) (cond (b == 125) (close_object (length text) s) (Err (Syntax (length text)))))) (is_blank b)
     (λ e. r_after (after_blank text b s e (after_entry a)))
     (λ n. test_judged text b (go mode.Key s) (cond (b == 93) (close_list (length text) s) (cond (b == 125) (close_object (length text) s) (Err (Syntax (length text))))) (b == 44)
-        (λ e. r_key (record { es = a.last ∷ a.es; front = a.front; inside = a.inside; space = a.space; space' = []; white = a.white; white' = tt; printed = one_more text b 44 e ∙ (ap (λ w. w ++ 44 ∷ []) a.printed ∙ append_assoc a.front a.space (44 ∷ [])) }))
+    (λ e. r_key (record { es = a.last ∷ a.es; front = a.front; inside = a.inside; space = a.space; space' = []; white = a.white; white' = tt; printed = one_more text b 44 e ∙ (ap (λ w. w ++ 44 ∷ []) a.printed ∙ append_assoc a.front a.space (44 ∷ [])) }))
     (λ n. test_judged text b (close_list (length text) s) (cond (b == 125) (close_object (length text) s) (Err (Syntax (length text)))) (b == 93) (λ e. unfold close_list in no)
     (λ n. test_judged text b (close_object (length text) s) (Err (Syntax (length text))) (b == 125) (λ e. object_judged mode.After ls p members text b e (entry_after_closed text a)) (λ n. no))))
 
@@ -301,18 +319,18 @@ word_judged ls p w n text b h =
     let place = length text in
     test_judged text b (cond (n + 1 == length (word_text w)) (complete place (word_value p w) r) (go (mode.Word p w (n + 1)) r)) (Err (Syntax place)) (nat_lt n (length (word_text w)) && (b == letter_at (word_text w) n))
     (λ e.
-        let tests = and_both (nat_lt n (length (word_text w))) (b == letter_at (word_text w) n) e in
-        let grown : text ++ b ∷ [] ≡ h.before ++ take (n + 1) (word_text w) =
-              one_more text b (letter_at (word_text w) n) tests.1 ∙ (ap (λ x. x ++ letter_at (word_text w) n ∷ []) h.printed ∙ (append_assoc h.before (take n (word_text w)) (letter_at (word_text w) n ∷ []) ∙ ap (λ x. h.before ++ x) (sym (take_more (word_text w) n 0 h.short)))) in
-        test_judged text b (complete place (word_value p w) r) (go (mode.Word p w (n + 1)) r) (n + 1 == length (word_text w))
-        (λ f.
-            let whole : text ++ b ∷ [] ≡ h.before ++ print (word_tree w) = grown ∙ ap (λ x. h.before ++ x) (take_all (n + 1) (word_text w) (let same : n + 1 ≡ length (word_text w) = eq_at (n + 1) (length (word_text w)) f in omega arith) ∙ sym (word_print w)) in
-            judged_as text b (complete place (word_value p w) r) (Ok (finished (word_value p w) ls None)) (complete_ready place (word_value p w) (mode.Word p w n) ls None (awaits-ready ls h.before h.stands))
-            (r_after (subst (λ x. AfterValue x (finished (word_value p w) ls None)) (sym whole)
-            (subst (λ j. AfterValue (h.before ++ print (word_tree w)) (finished j ls None)) (ap (λ k. value_at k (word_tree w)) (sym h.place) ∙ word_means w p) (finished_after ls h.before h.stands (word_tree w) (word_is_tree w) (word_taken w (length ls)))))))
-        (λ f.
-            let apart : n + 1 < length (word_text w) = short_of n (length (word_text w)) h.short f in
-            r_word (record { before = h.before; stands = h.stands; place = h.place; short = apart; printed = grown })))
+    let tests = and_both (nat_lt n (length (word_text w))) (b == letter_at (word_text w) n) e in
+    let grown : text ++ b ∷ [] ≡ h.before ++ take (n + 1) (word_text w) =
+    one_more text b (letter_at (word_text w) n) tests.1 ∙ (ap (λ x. x ++ letter_at (word_text w) n ∷ []) h.printed ∙ (append_assoc h.before (take n (word_text w)) (letter_at (word_text w) n ∷ []) ∙ ap (λ x. h.before ++ x) (sym (take_more (word_text w) n 0 h.short)))) in
+    test_judged text b (complete place (word_value p w) r) (go (mode.Word p w (n + 1)) r) (n + 1 == length (word_text w))
+    (λ f.
+    let whole : text ++ b ∷ [] ≡ h.before ++ print (word_tree w) = grown ∙ ap (λ x. h.before ++ x) (take_all (n + 1) (word_text w) (let same : n + 1 ≡ length (word_text w) = eq_at (n + 1) (length (word_text w)) f in omega arith) ∙ sym (word_print w)) in
+    judged_as text b (complete place (word_value p w) r) (Ok (finished (word_value p w) ls None)) (complete_ready place (word_value p w) (mode.Word p w n) ls None (awaits-ready ls h.before h.stands))
+    (r_after (subst (λ x. AfterValue x (finished (word_value p w) ls None)) (sym whole)
+    (subst (λ j. AfterValue (h.before ++ print (word_tree w)) (finished j ls None)) (ap (λ k. value_at k (word_tree w)) (sym h.place) ∙ word_means w p) (finished_after ls h.before h.stands (word_tree w) (word_is_tree w) (word_taken w (length ls)))))))
+    (λ f.
+    let apart : n + 1 < length (word_text w) = short_of n (length (word_text w)) h.short f in
+    r_word (record { before = h.before; stands = h.stands; place = h.place; short = apart; printed = grown })))
     (λ e. syntax_at text b (word_faultless ls p w n text h))
   where
     short_of : (k m : ℕ) → k < m → k + 1 == m ≡ false → k + 1 < m
@@ -341,7 +359,7 @@ number_stands ls p minus ds text rest h whole =
       within = omega (arith, h.place, ap length bytes, length-append h.before (signed minus ds ++ rest));
       whole = whole;
       stands = ap (λ n. drop n (text ++ rest)) h.place ∙ (ap (drop (length h.before)) bytes ∙ drop-append_seam h.before (signed minus ds ++ rest));
-      awaited = subst AwaitsValue (sym (ap (λ n. take n (text ++ rest)) h.place ∙ (ap (take (length h.before)) bytes ∙ take-append_seam h.before (signed minus ds ++ rest)))) (awaits_value ls h.before h.stands)
+      awaited = subst AwaitsValue (sym (ap (λ n. take n (text ++ rest)) h.place ∙ (ap (take (length h.before)) bytes ∙ take-append_seam h.before (signed minus ds ++ rest)))) (awaits_value ls h.before h.stands);
     }
 
 number_bytes : (minus : Bool) (ds : List ℕ) → print (number minus ds [] []) ≡ signed minus ds
@@ -386,5 +404,5 @@ minus_judged ls p text b h =
     test_judged text b (go (mode.Zero p true) r) (cond (is_decimal b) (go (mode.Digits p true (b - 48)) r) (Err (Syntax (length text)))) (b == 48)
     (λ e. r_zero (subst (λ n. NumberText ls p true (n ∷ []) (text ++ b ∷ [])) (eq_at b 48 e) (number_more text b h)))
     (λ n. test_judged text b (go (mode.Digits p true (b - 48)) r) (Err (Syntax (length text))) (is_decimal b)
-        (λ e. subst (λ k. Reached (text ++ b ∷ []) (state (mode.Digits p true k) ls None)) (small_digit b e) (r_digits b [] (number_more text b h) n (e, tt)))
-        (λ e. syntax_at text b (minus_faultless ls p text h)))
+    (λ e. subst (λ k. Reached (text ++ b ∷ []) (state (mode.Digits p true k) ls None)) (small_digit b e) (r_digits b [] (number_more text b h) n (e, tt)))
+    (λ e. syntax_at text b (minus_faultless ls p text h)))

@@ -13,3 +13,4 @@ pub mod Fresh
 pub mod Values
 pub mod Judged
 pub mod Soundness
+pub mod Verdict

@@ -99,26 +99,49 @@ lead-snoc s comma s' b = append_assoc s (comma ++ s') (b ∷ []) ∙ ap (λ w. s
 
 list_awaits-blank : {outside : List ℕ → Type 0} {depth p : ℕ} {items : List OrderedJson} (text : List ℕ) (b : ℕ) → is_blank b ≡ true → ListAwaits outside depth p items text → ListAwaits outside depth p items (text ++ b ∷ [])
 list_awaits-blank text b e a = record {
-  is = a.is; front = a.front; inside = a.inside; space = a.space; space' = a.space' ++ b ∷ []; white = a.white; white' = space-snoc a.space' b a.white' e;
-  printed = ap (λ w. w ++ b ∷ []) a.printed ∙ (snoc-two a.front (lead a.space (comma_after a.is) a.space') b ∙ ap (λ w. a.front ++ w) (lead-snoc a.space (comma_after a.is) a.space' b))
+  is = a.is;
+  front = a.front;
+  inside = a.inside;
+  space = a.space;
+  space' = a.space' ++ b ∷ [];
+  white = a.white;
+  white' = space-snoc a.space' b a.white' e;
+  printed = ap (λ w. w ++ b ∷ []) a.printed ∙ (snoc-two a.front (lead a.space (comma_after a.is) a.space') b ∙ ap (λ w. a.front ++ w) (lead-snoc a.space (comma_after a.is) a.space' b));
 }
 
 pub key_awaits-blank : {outside : List ℕ → Type 0} {depth p : ℕ} {members : List Member} (text : List ℕ) (b : ℕ) → is_blank b ≡ true → KeyAwaits outside depth p members text → KeyAwaits outside depth p members (text ++ b ∷ [])
 key_awaits-blank text b e a = record {
-  es = a.es; front = a.front; inside = a.inside; space = a.space; space' = a.space' ++ b ∷ []; white = a.white; white' = space-snoc a.space' b a.white' e;
-  printed = ap (λ w. w ++ b ∷ []) a.printed ∙ (snoc-two a.front (lead a.space (comma_past a.es) a.space') b ∙ ap (λ w. a.front ++ w) (lead-snoc a.space (comma_past a.es) a.space' b))
+  es = a.es;
+  front = a.front;
+  inside = a.inside;
+  space = a.space;
+  space' = a.space' ++ b ∷ [];
+  white = a.white;
+  white' = space-snoc a.space' b a.white' e;
+  printed = ap (λ w. w ++ b ∷ []) a.printed ∙ (snoc-two a.front (lead a.space (comma_past a.es) a.space') b ∙ ap (λ w. a.front ++ w) (lead-snoc a.space (comma_past a.es) a.space' b));
 }
 
 pub colon_awaits-blank : {outside : List ℕ → Type 0} {depth p : ℕ} {members : List Member} {key : List ℕ} {key_at : ℕ} (text : List ℕ) (b : ℕ) → is_blank b ≡ true → ColonAwaits outside depth p members key key_at text → ColonAwaits outside depth p members key key_at (text ++ b ∷ [])
 colon_awaits-blank text b e a = record {
-  before = a.before; awaited = a.awaited; chars = a.chars; gap = a.gap ++ b ∷ []; are = a.are; fresh = a.fresh; white = space-snoc a.gap b a.white e; key_is = a.key_is; place = a.place;
-  printed = ap (λ w. w ++ b ∷ []) a.printed ∙ (snoc-two a.before (print_string a.chars ++ a.gap) b ∙ ap (λ w. a.before ++ w) (append_assoc (print_string a.chars) a.gap (b ∷ [])))
+  before = a.before;
+  awaited = a.awaited;
+  chars = a.chars;
+  gap = a.gap ++ b ∷ [];
+  are = a.are;
+  fresh = a.fresh;
+  white = space-snoc a.gap b a.white e;
+  key_is = a.key_is;
+  place = a.place;
+  printed = ap (λ w. w ++ b ∷ []) a.printed ∙ (snoc-two a.before (print_string a.chars ++ a.gap) b ∙ ap (λ w. a.before ++ w) (append_assoc (print_string a.chars) a.gap (b ∷ [])));
 }
 
 member_awaits-blank : {outside : List ℕ → Type 0} {depth p : ℕ} {members : List Member} {key : List ℕ} {key_at : ℕ} (text : List ℕ) (b : ℕ) → is_blank b ≡ true → MemberAwaits outside depth p members key key_at text → MemberAwaits outside depth p members key key_at (text ++ b ∷ [])
 member_awaits-blank text b e a = record {
-  before = a.before; named = a.named; gap' = a.gap' ++ b ∷ []; white' = space-snoc a.gap' b a.white' e;
-  printed = ap (λ w. w ++ b ∷ []) a.printed ∙ snoc-two a.before (58 ∷ a.gap') b
+  before = a.before;
+  named = a.named;
+  gap' = a.gap' ++ b ∷ [];
+  white' = space-snoc a.gap' b a.white' e;
+  printed = ap (λ w. w ++ b ∷ []) a.printed ∙ snoc-two a.before (58 ∷ a.gap') b;
 }
 
 pub awaits-blank : (ls : List Level) (text : List ℕ) (b : ℕ) → is_blank b ≡ true → Awaits ls text → Awaits ls (text ++ b ∷ [])

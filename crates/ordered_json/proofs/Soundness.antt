@@ -51,49 +51,63 @@ record Whole {awaited : List ℕ → Type 0} {p : ℕ} {s : Spelling} {c text : 
 
 whole_string : {awaited : List ℕ → Type 0} {p : ℕ} {c text : List ℕ} (s : Spelling) (h : StringText awaited p s c text) → (s ≡ at.Between) ⊎ CanSpell s → Whole h
 whole_string {text = text} s h (inl e) = record {
-  chars = h.chars; are = h.are; more = [];
-  printed = append-nil text ∙ (h.printed ∙ ap (λ w. h.before ++ 34 ∷ w) (ap (λ t. print_chars h.chars ++ spelled_bytes t) e ∙ append-nil (print_chars h.chars)))
+  chars = h.chars;
+  are = h.are;
+  more = [];
+  printed = append-nil text ∙ (h.printed ∙ ap (λ w. h.before ++ 34 ∷ w) (ap (λ t. print_chars h.chars ++ spelled_bytes t) e ∙ append-nil (print_chars h.chars)));
 }
 whole_string {text = text} s h (inr g) = record {
-  chars = h.chars ++ g.char ∷ []; are = are-append h.chars (g.char ∷ []) h.are (g.is_char, tt); more = g.more;
+  chars = h.chars ++ g.char ∷ [];
+  are = are-append h.chars (g.char ∷ []) h.are (g.is_char, tt);
+  more = g.more;
   printed = ap (λ w. w ++ g.more) h.printed ∙ (append_assoc h.before (34 ∷ (print_chars h.chars ++ spelled_bytes s)) g.more
       ∙ ap (λ w. h.before ++ 34 ∷ w) (append_assoc (print_chars h.chars) (spelled_bytes s) g.more
-      ∙ (ap (λ w. print_chars h.chars ++ w) (sym g.printed ∙ sym (append-nil (print_char g.char))) ∙ sym (print_chars-append h.chars (g.char ∷ [])))))
+      ∙ (ap (λ w. print_chars h.chars ++ w) (sym g.printed ∙ sym (append-nil (print_char g.char))) ∙ sym (print_chars-append h.chars (g.char ∷ [])))));
 }
 
-text_faultless : (ls : List Level) (p : ℕ) (s : Spelling) (c text : List ℕ) → StringText (Awaits ls) p s c text → BeginsFaultless text
+pub text_faultless : (ls : List Level) (p : ℕ) (s : Spelling) (c text : List ℕ) → StringText (Awaits ls) p s c text → BeginsFaultless text
 text_faultless ls p s c text h =
     let w = whole_string s h (can_spell s h.spelling) in
     faultless-front text (w.more ++ 34 ∷ []) (faultless-is (h.before ++ print (string w.chars)) (text ++ (w.more ++ 34 ∷ []))
     (sym (sym (append_assoc text w.more (34 ∷ [])) ∙ (ap (λ x. x ++ 34 ∷ []) w.printed ∙ append_assoc h.before (34 ∷ print_chars w.chars) (34 ∷ []))))
     (plug ls h.before h.stands (string w.chars) w.are tt))
 
-key_text_faultless : (ls : List Level) (q : ℕ) (members : List Member) (p : ℕ) (s : Spelling) (c text : List ℕ) → StringText (KeyAwaits (Awaits ls) (length ls) q members) p s c text → BeginsFaultless text
+pub key_text_faultless : (ls : List Level) (q : ℕ) (members : List Member) (p : ℕ) (s : Spelling) (c text : List ℕ) → StringText (KeyAwaits (Awaits ls) (length ls) q members) p s c text → BeginsFaultless text
 key_text_faultless ls q members p s c text h =
     let w = whole_string s h (can_spell s h.spelling) in
     let f = fresh_after w.chars (map key_of members) in
     let cs = w.chars ++ f.more in
     let tail = print_chars f.more ++ (34 ∷ 58 ∷ []) in
     let bytes : text ++ (w.more ++ tail) ≡ h.before ++ (print_string cs ++ 58 ∷ []) =
-          sym (append_assoc text w.more tail) ∙ (ap (λ x. x ++ tail) w.printed ∙ (append_assoc h.before (34 ∷ print_chars w.chars) tail
-          ∙ ap (λ x. h.before ++ 34 ∷ x) (sym (append_assoc (print_chars w.chars) (print_chars f.more) (34 ∷ 58 ∷ [])) ∙ (ap (λ x. x ++ (34 ∷ 58 ∷ [])) (sym (print_chars-append w.chars f.more)) ∙ sym (append_assoc (print_chars cs) (34 ∷ []) (58 ∷ [])))))) in
+    sym (append_assoc text w.more tail) ∙ (ap (λ x. x ++ tail) w.printed ∙ (append_assoc h.before (34 ∷ print_chars w.chars) tail
+    ∙ ap (λ x. h.before ++ 34 ∷ x) (sym (append_assoc (print_chars w.chars) (print_chars f.more) (34 ∷ 58 ∷ [])) ∙ (ap (λ x. x ++ (34 ∷ 58 ∷ [])) (sym (print_chars-append w.chars f.more)) ∙ sym (append_assoc (print_chars cs) (34 ∷ []) (58 ∷ [])))))) in
     faultless-front text (w.more ++ tail) (faultless-is (h.before ++ (print_string cs ++ 58 ∷ [])) (text ++ (w.more ++ tail)) (sym bytes)
     (named_faultless ls h.before cs h.stands (are-append w.chars f.more w.are f.are) f.fresh))
 
 -- one byte more of a character, and a character more
 text_more : {awaited : List ℕ → Type 0} {p : ℕ} {s : Spelling} {c : List ℕ} (text : List ℕ) (b : ℕ) (t : Spelling) → StringText awaited p s c text → IsSpelling t × (spelled_bytes t ≡ spelled_bytes s ++ b ∷ []) → StringText awaited p t c (text ++ b ∷ [])
 text_more {s = s} text b t h right = record {
-  before = h.before; stands = h.stands; place = h.place; chars = h.chars; are = h.are; content_is = h.content_is; spelling = right.0;
-  printed = ap (λ w. w ++ b ∷ []) h.printed ∙ (append_assoc h.before (34 ∷ (print_chars h.chars ++ spelled_bytes s)) (b ∷ []) ∙ ap (λ w. h.before ++ 34 ∷ w) (append_assoc (print_chars h.chars) (spelled_bytes s) (b ∷ []) ∙ ap (λ w. print_chars h.chars ++ w) (sym right.1)))
+  before = h.before;
+  stands = h.stands;
+  place = h.place;
+  chars = h.chars;
+  are = h.are;
+  content_is = h.content_is;
+  spelling = right.0;
+  printed = ap (λ w. w ++ b ∷ []) h.printed ∙ (append_assoc h.before (34 ∷ (print_chars h.chars ++ spelled_bytes s)) (b ∷ []) ∙ ap (λ w. h.before ++ 34 ∷ w) (append_assoc (print_chars h.chars) (spelled_bytes s) (b ∷ []) ∙ ap (λ w. print_chars h.chars ++ w) (sym right.1)));
 }
 
 text_char : {awaited : List ℕ → Type 0} {p : ℕ} {s : Spelling} {c : List ℕ} (text : List ℕ) (b v : ℕ) → StringText awaited p s c text → SpellsChar (spelled_bytes s ++ b ∷ []) v → StringText awaited p at.Between (c ++ encode_utf8 v) (text ++ b ∷ [])
 text_char {s = s} {c} text b v h right = record {
-  before = h.before; stands = h.stands; place = h.place; chars = h.chars ++ right.0 ∷ []; are = are-append h.chars (right.0 ∷ []) h.are (right.1, tt);
+  before = h.before;
+  stands = h.stands;
+  place = h.place;
+  chars = h.chars ++ right.0 ∷ [];
+  are = are-append h.chars (right.0 ∷ []) h.are (right.1, tt);
   content_is = ap (λ d. d ++ encode_utf8 v) h.content_is ∙ (ap (λ n. content h.chars ++ encode_utf8 n) (sym right.2) ∙ (ap (λ d. content h.chars ++ d) (sym (append-nil (encode_utf8 (char_value right.0)))) ∙ sym (content-append h.chars (right.0 ∷ []))));
   spelling = tt;
   printed = ap (λ w. w ++ b ∷ []) h.printed ∙ (append_assoc h.before (34 ∷ (print_chars h.chars ++ spelled_bytes s)) (b ∷ []) ∙ ap (λ w. h.before ++ 34 ∷ w)
-      (append_assoc (print_chars h.chars) (spelled_bytes s) (b ∷ []) ∙ (ap (λ w. print_chars h.chars ++ w) (sym right.3 ∙ sym (append-nil (print_char right.0))) ∙ (sym (print_chars-append h.chars (right.0 ∷ [])) ∙ sym (append-nil (print_chars (h.chars ++ right.0 ∷ [])))))))
+      (append_assoc (print_chars h.chars) (spelled_bytes s) (b ∷ []) ∙ (ap (λ w. print_chars h.chars ++ w) (sym right.3 ∙ sym (append-nil (print_char right.0))) ∙ (sym (print_chars-append h.chars (right.0 ∷ [])) ∙ sym (append-nil (print_chars (h.chars ++ right.0 ∷ [])))))));
 }
 
 -- the closing quote
@@ -120,10 +134,13 @@ double_key ls q members p s c text b h right rest refused =
     let bytes : text ++ b ∷ rest ≡ h.before ++ (print_string h.chars ++ rest) = sym (append_assoc text (b ∷ []) rest) ∙ (ap (λ w. w ++ rest) ends ∙ append_assoc h.before (print_string h.chars) rest) in
     let front : take p (text ++ b ∷ rest) ≡ h.before = ap (λ n. take n (text ++ b ∷ rest)) h.place ∙ (ap (take (length h.before)) bytes ∙ take-append_seam h.before (print_string h.chars ++ rest)) in
     record {
-      key = h.chars; rest = rest; within = omega (arith, h.place, ap length bytes, length-append h.before (print_string h.chars ++ rest)); well_formed = h.are;
+      key = h.chars;
+      rest = rest;
+      within = omega (arith, h.place, ap length bytes, length-append h.before (print_string h.chars ++ rest));
+      well_formed = h.are;
       stands = ap (λ n. drop n (text ++ b ∷ rest)) h.place ∙ (ap (drop (length h.before)) bytes ∙ drop-append_seam h.before (print_string h.chars ++ rest));
       awaited = subst AwaitsKey (sym front) (awaits_key ls h.before h.stands);
-      double = λ f. refused (faultless-is (h.before ++ print_string h.chars) (text ++ b ∷ []) (sym ends) (subst (λ w. BeginsFaultless (w ++ print_string h.chars)) front f))
+      double = λ f. refused (faultless-is (h.before ++ print_string h.chars) (text ++ b ∷ []) (sym ends) (subst (λ w. BeginsFaultless (w ++ print_string h.chars)) front f));
     }
 
 key_text_judged : (ls : List Level) (q : ℕ) (members : List Member) (p : ℕ) (s : Spelling) (c text : List ℕ) (b : ℕ) (x : Spelled) → StringText (KeyAwaits (Awaits ls) (length ls) q members) p s c text → IsRight s b x → Judges text b (spelled_in (length text) p true (text_state p true s (level.Object q members ∷ ls) None c) x)
@@ -134,8 +151,16 @@ key_text_judged ls q members p s c text b spelled.End h right =
     test_judged text b (Err (DoubleKey p)) (Ok (state mode.Colon (level.Member q members c p ∷ ls) None)) (has_key c (map key_of members))
     (λ e rest refused. double_key ls q members p s c text b h right rest refused)
     (λ e. r_colon (record {
-      before = h.before; awaited = h.stands; chars = h.chars; gap = []; are = h.are; fresh = subst (λ k. has_key k (map key_of members) ≡ false) h.content_is e; white = tt;
-      key_is = h.content_is; place = h.place; printed = text_ends text b h right ∙ ap (λ w. h.before ++ w) (sym (append-nil (print_string h.chars)))
+      before = h.before;
+      awaited = h.stands;
+      chars = h.chars;
+      gap = [];
+      are = h.are;
+      fresh = subst (λ k. has_key k (map key_of members) ≡ false) h.content_is e;
+      white = tt;
+      key_is = h.content_is;
+      place = h.place;
+      printed = text_ends text b h right ∙ ap (λ w. h.before ++ w) (sym (append-nil (print_string h.chars)));
     }))
 key_text_judged ls q members p s c text b spelled.Bad h right = syntax_at text b (key_text_faultless ls q members p s c text h)
 
@@ -160,8 +185,8 @@ reached_step text b r (r_colon {ls} {p} {members} {key} {key_at} c) =
     let s = state mode.Colon (level.Member p members key key_at ∷ ls) None in
     test_judged text b (Ok s) (cond (b == 58) (go mode.Value s) (Err (Syntax (length text)))) (is_blank b) (λ e. r_colon (colon_awaits-blank text b e c))
     (λ n. test_judged text b (go mode.Value s) (Err (Syntax (length text))) (b == 58)
-        (λ e. r_value {ls = level.Member p members key key_at ∷ ls} (record { before = text; named = c; gap' = []; white' = tt; printed = one_more text b 58 e }))
-        (λ e. syntax_at text b (colon_awaits_faultless ls text c)))
+    (λ e. r_value {ls = level.Member p members key key_at ∷ ls} (record { before = text; named = c; gap' = []; white' = tt; printed = one_more text b 58 e }))
+    (λ e. syntax_at text b (colon_awaits_faultless ls text c)))
 reached_step text b r (r_after (after_all h)) = after_judged text b r (after_all h)
 reached_step text b r (r_after (after_item a)) = after_judged text b r (after_item a)
 reached_step text b r (r_after (after_entry a)) = after_judged text b r (after_entry a)

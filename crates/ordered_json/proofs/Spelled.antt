@@ -149,6 +149,7 @@ three_scalar a b c al ah bl bh (inr (inr l)) cl ch = below_238 (split a)
   where
     split : (n : ℕ) → (n < 238) ⊎ (238 ≤ n)
     split n = grind arith
+
     below_238 : (a < 238) ⊎ (238 ≤ a) → IsScalar (three_bytes a b c)
     below_238 (inl m) = is_scalar_in (three_bytes a b c) (inl (omega arith))
     below_238 (inr m) = is_scalar_in (three_bytes a b c) (inr (omega arith, omega arith))
@@ -197,7 +198,7 @@ pair_right u a b c d s h =
     let hex = hex_of a b c d (thirteen_digit (digit_value a) s.1) second.0 s.3 h in
     test_right (at.Low3 u a b c) d (char_of (pair_value (hex_value u) (hex_value w))) spelled.Bad (is_high_surrogate (hex_value u) && is_low_surrogate (hex_value w))
     (λ e. test_right (at.Low3 u a b c) d (spelled.Char (pair_value (hex_value u) (hex_value w))) spelled.Bad (scalar (pair_value (hex_value u) (hex_value w)))
-        (λ f. let halves = and_true (is_high_surrogate (hex_value u)) (is_low_surrogate (hex_value w)) e in (paired (unit_of u) (unit_of w), (s.0.0, hex, halves.0, halves.1), refl, refl)) (λ f. tt))
+    (λ f. let halves = and_true (is_high_surrogate (hex_value u)) (is_low_surrogate (hex_value w)) e in (paired (unit_of u) (unit_of w), (s.0.0, hex, halves.0, halves.1), refl, refl)) (λ f. tt))
     (λ e. tt)
 
 -- ---- every byte
@@ -207,8 +208,8 @@ second_right a b l s =
     let lb = second_facts a b s in
     test_right (at.Lead1 a) b (char_of (two_bytes a b)) (spelled.More (at.Lead2 a b)) (nat_lt a 0xE0)
     (λ e. let small : a < 224 = below a 224 e in
-        test_right (at.Lead1 a) b (spelled.Char (two_bytes a b)) spelled.Bad (scalar (two_bytes a b))
-        (λ f. (plain (two_bytes a b), plain_high (two_bytes a b) f (omega arith), refl, two_encoded a b la.0 small lb.0 lb.1)) (λ f. tt))
+    test_right (at.Lead1 a) b (spelled.Char (two_bytes a b)) spelled.Bad (scalar (two_bytes a b))
+    (λ f. (plain (two_bytes a b), plain_high (two_bytes a b) f (omega arith), refl, two_encoded a b la.0 small lb.0 lb.1)) (λ f. tt))
     (λ e. ((l, s, e), refl))
 
 third_right : (a b c : ℕ) → IsSpelling (at.Lead2 a b) → is_tail c ≡ true → IsRight (at.Lead2 a b) c (after_third a b c)
@@ -219,11 +220,11 @@ third_right a b c s t =
     let over : 224 ≤ a = above a 224 s.2 in
     test_right (at.Lead2 a b) c (char_of (three_bytes a b c)) (spelled.More (at.Lead3 a b c)) (nat_lt a 0xF0)
     (λ e. let small : a < 240 = below a 240 e in
-        let v = three_bytes a b c in
-        let low : (225 ≤ a) ⊎ (160 ≤ b) = three_low a b s.1 over in
-        let big : 128 ≤ three_bytes a b c = omega arith in
-        test_right (at.Lead2 a b) c (spelled.Char v) spelled.Bad (scalar v)
-        (λ f. (plain v, plain_high v f big, refl, three_encoded a b c over small lb.0 lb.1 low lc.0 lc.1)) (λ f. tt))
+    let v = three_bytes a b c in
+    let low : (225 ≤ a) ⊎ (160 ≤ b) = three_low a b s.1 over in
+    let big : 128 ≤ three_bytes a b c = omega arith in
+    test_right (at.Lead2 a b) c (spelled.Char v) spelled.Bad (scalar v)
+    (λ f. (plain v, plain_high v f big, refl, three_encoded a b c over small lb.0 lb.1 low lc.0 lc.1)) (λ f. tt))
     (λ e. ((s.0, s.1, t, e), refl))
 
 fourth_right : (a b c d : ℕ) → IsSpelling (at.Lead3 a b c) → is_tail d ≡ true → IsRight (at.Lead3 a b c) d (char_of (four_bytes a b c d))
@@ -245,12 +246,12 @@ between_right b =
     test_right at.Between b spelled.End (cond (b == 92) (spelled.More at.Backslash) (cond (nat_lt b 32) spelled.Bad (cond (nat_lt b 128) (spelled.Char b) (cond (is_lead b) (spelled.More (at.Lead1 b)) spelled.Bad)))) (b == 34)
     (λ e. (refl, eq_at b 34 e))
     (λ q. test_right at.Between b (spelled.More at.Backslash) (cond (nat_lt b 32) spelled.Bad (cond (nat_lt b 128) (spelled.Char b) (cond (is_lead b) (spelled.More (at.Lead1 b)) spelled.Bad))) (b == 92)
-        (λ e. (tt, cons-eq 92 b [] [] (sym (eq_at b 92 e)) refl))
-        (λ s. test_right at.Between b spelled.Bad (cond (nat_lt b 128) (spelled.Char b) (cond (is_lead b) (spelled.More (at.Lead1 b)) spelled.Bad)) (nat_lt b 32)
-            (λ e. tt)
-            (λ l. test_right at.Between b (spelled.Char b) (cond (is_lead b) (spelled.More (at.Lead1 b)) spelled.Bad) (nat_lt b 128)
-                (λ e. (plain b, (low_is_scalar b (below b 128 e), above b 32 l, q, s), refl, encode_one b e))
-                (λ e. test_right at.Between b (spelled.More (at.Lead1 b)) spelled.Bad (is_lead b) (λ f. (f, refl)) (λ f. tt)))))
+    (λ e. (tt, cons-eq 92 b [] [] (sym (eq_at b 92 e)) refl))
+    (λ s. test_right at.Between b spelled.Bad (cond (nat_lt b 128) (spelled.Char b) (cond (is_lead b) (spelled.More (at.Lead1 b)) spelled.Bad)) (nat_lt b 32)
+    (λ e. tt)
+    (λ l. test_right at.Between b (spelled.Char b) (cond (is_lead b) (spelled.More (at.Lead1 b)) spelled.Bad) (nat_lt b 128)
+    (λ e. (plain b, (low_is_scalar b (below b 128 e), above b 32 l, q, s), refl, encode_one b e))
+    (λ e. test_right at.Between b (spelled.More (at.Lead1 b)) spelled.Bad (is_lead b) (λ f. (f, refl)) (λ f. tt)))))
 
 pub spell_right : (s : Spelling) (b : ℕ) → IsSpelling s → IsRight s b (spell s b)
 spell_right at.Between b s = between_right b
@@ -311,6 +312,7 @@ hex3_spells a b c s = by (is_high_surrogate (hex_value u)) refl
   where
     u : HexUnit
     u = hex_unit a b c 48
+
     by : (x : Bool) → is_high_surrogate (hex_value (hex_unit a b c 48)) ≡ x → CanSpell (at.Hex3 a b c)
     by true e = goes_to (at.Hex3 a b c) 48 (at.High (hex_unit a b c 48)) s (rw e refl) (λ t. high_spells (hex_unit a b c 48) t)
     by false e =

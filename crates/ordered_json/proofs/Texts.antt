@@ -33,8 +33,12 @@ plain_number f minus ds p rest ls o x true e h r ends a =
     inl (by_bytes (append_assoc (signed minus ds) [] rest)
     (number_read f minus ds h.0 (λ m is. number_ends rest is r e ends (by_place {q = p + length (signed minus ds ++ [])} (omega (arith, ap length (append-nil (signed minus ds)))) a))))
 plain_number f minus ds p rest ls o x false e h r ends a =
-    inr (λ taken. (let clash : true ≡ false = sym taken.2 ∙ e in cc), Range p, tt,
-        by_bytes (append_assoc (signed minus ds) [] rest) (number_read f minus ds h.0 (λ m is. number_too_large rest is e ends)))
+    inr (
+      λ taken. (let clash : true ≡ false = sym taken.2 ∙ e in cc),
+      Range p,
+      tt,
+      by_bytes (append_assoc (signed minus ds) [] rest) (number_read f minus ds h.0 (λ m is. number_too_large rest is e ends)),
+    )
 
 is_mark_at : (b c : ℕ) → b ≡ c → is_mark c ≡ true → is_mark b ≡ true
 is_mark_at b c e h = subst (λ n. is_mark n ≡ true) (sym e) h
@@ -42,11 +46,19 @@ is_mark_at b c e h = subst (λ n. is_mark n ≡ true) (sym e) h
 number_tree : (f minus : Bool) (ds fraction exponent : List ℕ) (p : ℕ) (rest : List ℕ) (ls : List Level) (o : Option OrderedJson) (x : Answer) → IsTree (number minus ds fraction exponent) → Ready ls → EndsNumber rest → Answers (p + length (print (number minus ds fraction exponent))) rest (Ok (finished (value_at p (number minus ds fraction exponent)) ls o)) x → Reads (IsTaken (length ls) (number minus ds fraction exponent)) p (print (number minus ds fraction exponent) ++ rest) (Ok (state (awaiting f) ls o)) x
 number_tree f minus ds [] [] p rest ls o x h r ends a = plain_number f minus ds p rest ls o x (fits minus (magnitude ds)) refl h r ends a
 number_tree f minus ds [] (b ∷ bs) p rest ls o x h r ends a =
-    inr (λ taken. (let none : b ∷ bs ≡ [] = taken.1 in cc), Fraction p, tt,
-        by_bytes (append_assoc (signed minus ds) (b ∷ bs) rest) (number_read f minus ds h.0 (λ m is. number_marked is (elim h.2.0 as (λ _. is_mark b ≡ true) [ inl e ↦ is_mark_at b 101 e refl | inr e ↦ is_mark_at b 69 e refl ]))))
+    inr (
+      λ taken. (let none : b ∷ bs ≡ [] = taken.1 in cc),
+      Fraction p,
+      tt,
+      by_bytes (append_assoc (signed minus ds) (b ∷ bs) rest) (number_read f minus ds h.0 (λ m is. number_marked is (elim h.2.0 as (λ _. is_mark b ≡ true) [ inl e ↦ is_mark_at b 101 e refl | inr e ↦ is_mark_at b 69 e refl ]))),
+    )
 number_tree f minus ds (b ∷ bs) exponent p rest ls o x h r ends a =
-    inr (λ taken. (let none : b ∷ bs ≡ [] = taken.0 in cc), Fraction p, tt,
-        by_bytes (append_assoc (signed minus ds) (b ∷ (bs ++ exponent)) rest) (number_read f minus ds h.0 (λ m is. number_marked is (is_mark_at b 46 h.1.0 refl))))
+    inr (
+      λ taken. (let none : b ∷ bs ≡ [] = taken.0 in cc),
+      Fraction p,
+      tt,
+      by_bytes (append_assoc (signed minus ds) (b ∷ (bs ++ exponent)) rest) (number_read f minus ds h.0 (λ m is. number_marked is (is_mark_at b 46 h.1.0 refl))),
+    )
 
 -- ---- arrays
 deeper : (n : ℕ) → nat_lt n max_depth ≡ false → n < max_depth → ⊥
@@ -105,9 +117,13 @@ member_from : (f : Bool) (s s' : List ℕ) (k : List Char) (r r' : List ℕ) (t 
     → Reads (MembersTaken (suc (length ls)) (map key_of before ++ content k ∷ []) ms) (value_from f p s s' k r r' + length (print t)) (print_members (44 ∷ []) ms ++ rest) (Ok (state mode.After (level.Object q (before ++ member_of (content k) (key_at f p s s') (value_at (value_from f p s s' k r r') t) ∷ []) ∷ ls) o)) x
     → Reads (MembersTaken (suc (length ls)) (map key_of before) (member s s' k r r' t ms)) p (print_members (comma_of f) (member s s' k r r' t ms) ++ rest) (Ok (state (object_mode f) (level.Object q before ∷ ls) o)) x
 member_from f s s' k r r' t ms p rest q before ls o x true e h h' hk hr hr' tree reads =
-    inr (λ taken. (let clash : true ≡ false = sym e ∙ taken.0 in cc), DoubleKey (key_at f p s s'), tt,
-        by_bytes (member_bytes (lead s (comma_of f) s') (print_string k) (colon r r') (print t) (print_members (44 ∷ []) ms) rest)
-        (object_lead f s s' h h' (key_refused f k (colon r r' ++ (print t ++ (print_members (44 ∷ []) ms ++ rest))) hk e)))
+    inr (
+      λ taken. (let clash : true ≡ false = sym e ∙ taken.0 in cc),
+      DoubleKey (key_at f p s s'),
+      tt,
+      by_bytes (member_bytes (lead s (comma_of f) s') (print_string k) (colon r r') (print t) (print_members (44 ∷ []) ms) rest)
+          (object_lead f s s' h h' (key_refused f k (colon r r' ++ (print t ++ (print_members (44 ∷ []) ms ++ rest))) hk e)),
+    )
 member_from f s s' k r r' t ms p rest q before ls o x false e h h' hk hr hr' tree reads = chosen reads
   where
     goes : (y : Answer) → Answers (value_from f p s s' k r r') (print t ++ (print_members (44 ∷ []) ms ++ rest)) (Ok (state mode.Value (level.Member q before (content k) (key_at f p s s') ∷ ls) o)) y → Answers p (print_members (comma_of f) (member s s' k r r' t ms) ++ rest) (Ok (state (object_mode f) (level.Object q before ∷ ls) o)) y

@@ -56,14 +56,21 @@ finished_after [] text a t h taken = after_all (text, t, [], record { white_befo
 finished_after (level.List p items ∷ ls) text a t h taken =
     let l = lead a.space (comma_after a.is) a.space' in
     after_item (record {
-      last = record { space = a.space; space' = a.space'; tree = t }; is = a.is; front = text ++ print t;
+      last = record { space = a.space; space' = a.space'; tree = t };
+      is = a.is;
+      front = text ++ print t;
       inside = record {
-        outer = a.inside.outer; stands = a.inside.stands; place = a.inside.place; room = a.inside.room;
+        outer = a.inside.outer;
+        stands = a.inside.stands;
+        place = a.inside.place;
+        room = a.inside.room;
         are = (a.inside.are, a.white, a.white', h, taken);
         values = ap (λ js. js ++ value_at (length text) t ∷ []) a.inside.values ∙ ap (λ n. item_values (p + 1) a.is ++ value_at n t ∷ []) (sym (item_place a.inside.outer a.is l p a.front text a.inside.place a.inside.printed a.printed));
-        printed = item_bytes a.inside.outer (print_items a.is) l (print t) a.front text 91 a.inside.printed a.printed
+        printed = item_bytes a.inside.outer (print_items a.is) l (print t) a.front text 91 a.inside.printed a.printed;
       };
-      space = []; white = tt; printed = sym (append-nil (text ++ print t))
+      space = [];
+      white = tt;
+      printed = sym (append-nil (text ++ print t));
     })
 finished_after (level.Object p members ∷ ls) text a t h taken = absurd a
 finished_after (level.Member p members key key_at ∷ ls) text a t h taken =
@@ -74,23 +81,30 @@ finished_after (level.Member p members key key_at ∷ ls) text a t h taken =
     let gap = colon n.gap a.gap' in
     let before = print_entries k.es in
     let whole : text ≡ k.inside.outer ++ 123 ∷ (before ++ (l ++ (s ++ gap))) =
-          a.printed ∙ (ap (λ w. w ++ 58 ∷ a.gap') (n.printed ∙ item_bytes k.inside.outer before l (s ++ n.gap) k.front n.before 123 k.inside.printed k.printed)
-          ∙ (append_assoc k.inside.outer (123 ∷ (before ++ (l ++ (s ++ n.gap)))) (58 ∷ a.gap')
-          ∙ ap (λ w. k.inside.outer ++ 123 ∷ w) (append_assoc before (l ++ (s ++ n.gap)) (58 ∷ a.gap') ∙ ap (λ w. before ++ w) (append_assoc l (s ++ n.gap) (58 ∷ a.gap') ∙ ap (λ w. l ++ w) (append_assoc s n.gap (58 ∷ a.gap')))))) in
+    a.printed ∙ (ap (λ w. w ++ 58 ∷ a.gap') (n.printed ∙ item_bytes k.inside.outer before l (s ++ n.gap) k.front n.before 123 k.inside.printed k.printed)
+    ∙ (append_assoc k.inside.outer (123 ∷ (before ++ (l ++ (s ++ n.gap)))) (58 ∷ a.gap')
+    ∙ ap (λ w. k.inside.outer ++ 123 ∷ w) (append_assoc before (l ++ (s ++ n.gap)) (58 ∷ a.gap') ∙ ap (λ w. before ++ w) (append_assoc l (s ++ n.gap) (58 ∷ a.gap') ∙ ap (λ w. l ++ w) (append_assoc s n.gap (58 ∷ a.gap')))))) in
     let value_place : p + 1 + length (before ++ (l ++ (s ++ gap))) ≡ length text = omega (arith, k.inside.place, ap length whole, length-append k.inside.outer (123 ∷ (before ++ (l ++ (s ++ gap))))) in
     let key_is : key_at ≡ p + 1 + length (before ++ l) = omega (arith, n.place, k.inside.place, ap length k.printed, ap length k.inside.printed, length-append k.front l, length-append k.inside.outer (123 ∷ before), length-append before l) in
     after_entry (record {
-      last = record { space = k.space; space' = k.space'; key = n.chars; gap = n.gap; gap' = a.gap'; tree = t }; es = k.es; front = text ++ print t;
+      last = record { space = k.space; space' = k.space'; key = n.chars; gap = n.gap; gap' = a.gap'; tree = t };
+      es = k.es;
+      front = text ++ print t;
       inside = record {
-        outer = k.inside.outer; stands = k.inside.stands; place = k.inside.place; room = k.inside.room;
+        outer = k.inside.outer;
+        stands = k.inside.stands;
+        place = k.inside.place;
+        room = k.inside.room;
         are = (k.inside.are, (k.white, k.white', n.are, n.white, a.white', h), subst (λ ks. has_key (content n.chars) ks ≡ false) (ap (map key_of) k.inside.values ∙ keys-entries (p + 1) k.es) n.fresh, taken);
         values = ap (λ ms. ms ++ member_of key key_at (value_at (length text) t) ∷ []) k.inside.values
             ∙ (ap (λ c. entry_values (p + 1) k.es ++ member_of c key_at (value_at (length text) t) ∷ []) n.key_is
             ∙ (ap (λ c. entry_values (p + 1) k.es ++ member_of (content n.chars) c (value_at (length text) t) ∷ []) key_is
             ∙ ap (λ c. entry_values (p + 1) k.es ++ member_of (content n.chars) (p + 1 + length (before ++ l)) (value_at c t) ∷ []) (sym value_place)));
-        printed = ap (λ w. w ++ print t) whole ∙ (append_assoc k.inside.outer (123 ∷ (before ++ (l ++ (s ++ gap)))) (print t) ∙ ap (λ w. k.inside.outer ++ 123 ∷ w) (append_assoc before (l ++ (s ++ gap)) (print t)))
+        printed = ap (λ w. w ++ print t) whole ∙ (append_assoc k.inside.outer (123 ∷ (before ++ (l ++ (s ++ gap)))) (print t) ∙ ap (λ w. k.inside.outer ++ 123 ∷ w) (append_assoc before (l ++ (s ++ gap)) (print t)));
       };
-      space = []; white = tt; printed = sym (append-nil (text ++ print t))
+      space = [];
+      white = tt;
+      printed = sym (append-nil (text ++ print t));
     })
 
 -- ---- arrays and objects that close
@@ -108,12 +122,14 @@ pub close_list_text : (ls : List Level) (p : ℕ) (items : List OrderedJson) (is
 close_list_text ls p items is front space text h white e =
     let es = no_elements space in
     record {
-      outer = h.outer; stands = h.stands; tree = array (close is es);
+      outer = h.outer;
+      stands = h.stands;
+      tree = array (close is es);
       is_tree = are-close (suc (length ls)) is es h.are white;
       taken = (h.room, taken-close (suc (length ls)) is es h.are tt);
       value = ap (λ js. a_list (length h.outer) js) (values-close (length h.outer + 1) is es ∙ append-nil (item_values (length h.outer + 1) is))
           ∙ (ap (λ n. a_list n (item_values (n + 1) is)) (sym h.place) ∙ ap (a_list p) (sym h.values));
-      printed = item_bytes h.outer (print_items is) space (93 ∷ []) front text 91 h.printed e ∙ ap (λ w. h.outer ++ 91 ∷ w) (sym (print-close is es))
+      printed = item_bytes h.outer (print_items is) space (93 ∷ []) front text 91 h.printed e ∙ ap (λ w. h.outer ++ 91 ∷ w) (sym (print-close is es));
     }
 
 pub record ClosedObject (ls : List Level) (p : ℕ) (members : List Member) (text : List ℕ) : Type 0 where
@@ -129,12 +145,14 @@ pub close_object_text : (ls : List Level) (p : ℕ) (members : List Member) (es 
 close_object_text ls p members es front space text h white e =
     let ms = no_members space in
     record {
-      outer = h.outer; stands = h.stands; tree = object (close_members es ms);
+      outer = h.outer;
+      stands = h.stands;
+      tree = object (close_members es ms);
       is_tree = are-close_members (suc (length ls)) es ms h.are white;
       taken = (h.room, taken-close_members (suc (length ls)) es ms h.are tt);
       value = ap (λ js. Object (length h.outer) js) (values-close_members (length h.outer + 1) es ms ∙ append-nil (entry_values (length h.outer + 1) es))
           ∙ (ap (λ n. Object n (entry_values (n + 1) es)) (sym h.place) ∙ ap (Object p) (sym h.values));
-      printed = item_bytes h.outer (print_entries es) space (125 ∷ []) front text 123 h.printed e ∙ ap (λ w. h.outer ++ 123 ∷ w) (sym (print-close_members es ms))
+      printed = item_bytes h.outer (print_entries es) space (125 ∷ []) front text 123 h.printed e ∙ ap (λ w. h.outer ++ 123 ∷ w) (sym (print-close_members es ms));
     }
 
 pub closed_list_after : {ls : List Level} {p : ℕ} {items : List OrderedJson} (text : List ℕ) → ClosedList ls p items text → AfterValue (text ++ 93 ∷ []) (finished (a_list p items) ls None)
@@ -167,7 +185,9 @@ named_awaits : (ls : List Level) {p : ℕ} {members : List Member} (text : List 
 named_awaits ls text cs k are fresh = record {
   before = text ++ print_string cs;
   named = record { before = text; awaited = k; chars = cs; gap = []; are = are; fresh = fresh; white = tt; key_is = refl; place = refl; printed = ap (λ w. text ++ w) (sym (append-nil (print_string cs))) };
-  gap' = []; white' = tt; printed = sym (append_assoc text (print_string cs) (58 ∷ []))
+  gap' = [];
+  white' = tt;
+  printed = sym (append_assoc text (print_string cs) (58 ∷ []));
 }
 
 pub named_faultless : (ls : List Level) {p : ℕ} {members : List Member} (text : List ℕ) (cs : List Char) → KeyAwaits (Awaits ls) (length ls) p members text → AreChars cs → has_key (content cs) (map key_of members) ≡ false → BeginsFaultless (text ++ (print_string cs ++ 58 ∷ []))
