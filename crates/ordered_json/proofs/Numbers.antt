@@ -1,8 +1,6 @@
 -- The reader goes over numbers.
-use Rattle.std.proofs.Common.{◌≡◌, [], ◌∷◌, ◌++◌, ℕ, ◌+◌, ◌-◌, ◌*◌, ◌^◌, ◌≤◌, ◌<◌, min, Bool, true, false, cond, ◌||◌, ◌&&◌, ◌==◌, ◌⊎◌, inl, inr, List, length, Option, Some, None, Result, Ok, Err, refl, ap, sym, ◌∙◌, arith, fold, subst}
-use Rattle.std.specs.Bool.{⊤}
+use Rattle.std.proofs.Common.{◌≡◌, [], ◌∷◌, ◌++◌, ℕ, ◌+◌, ◌-◌, ◌*◌, ◌^◌, min, Bool, true, false, ◌||◌, ◌==◌, inl, inr, List, length, Option, Ok, Err, refl, ap, sym, ◌∙◌, arith, fold, subst}
 use Rattle.std.proofs.lemmas.Bool.Decides.{nat_tests}
-use Rattle.ordered_json.specs.declared.fault.JsonFault.{JsonFault}
 use Rattle.ordered_json.specs.declared.fault.JsonFault.TheVariants.{Fraction, Range}
 use Rattle.ordered_json.specs.declared.json.OrderedJson.{OrderedJson, Int}
 use Rattle.ordered_json.specs.declared.level.Level.{Level}
@@ -11,8 +9,8 @@ use Rattle.ordered_json.specs.declared.mode.Mode.TheVariants as mode
 use Rattle.ordered_json.specs.Grammar.{is_decimal, AreDigits, IsWhole, signed}
 use Rattle.ordered_json.specs.Meaning.{magnitude, int_value, fits}
 use Rattle.ordered_json.specs.Faults.{is_mark, EndsNumber}
-use Rattle.ordered_json.specs.Steps.{Outcome, complete, between, begin_value, step, settle, end_number, after_digits, in_digits, after_minus, answer_from, answer_of, and_then, finish}
-use Rattle.ordered_json.proofs.Runs.{Answers, by_step, by_same, by_place, by_bytes, by_fault, answer_from-err}
+use Rattle.ordered_json.specs.Steps.{between, begin_value, step, settle, end_number, after_digits, in_digits, after_minus, answer_from, answer_of, and_then}
+use Rattle.ordered_json.proofs.Runs.{Answers, by_step, by_place, by_fault}
 use Rattle.ordered_json.proofs.States.{state, Ready, finished, complete_ready, awaiting}
 use Rattle.ordered_json.proofs.Accept.{Answer}
 

@@ -1,19 +1,15 @@
 -- What a text looks like up to the byte that the reader stands at.
-use Rattle.std.proofs.Common.{◌≡◌, [], ◌∷◌, ◌++◌, ℕ, suc, ◌+◌, ◌<◌, Bool, true, false, List, length, map, Option, Some, None, refl, ap, sym, ◌∙◌, arith, subst, append_assoc, append-nil, length-append}
-use Rattle.std.specs.Bool.{⊤}
+use Rattle.std.proofs.Common.{◌≡◌, [], ◌∷◌, ◌++◌, ℕ, suc, ◌+◌, ◌<◌, true, false, List, length, map, refl, ap, sym, ◌∙◌, subst, append_assoc}
 use Rattle.ordered_json.specs.declared.json.Member.{Member}
-use Rattle.ordered_json.specs.declared.json.OrderedJson.{OrderedJson, Null, List as a_list, Object}
+use Rattle.ordered_json.specs.declared.json.OrderedJson.{OrderedJson}
 use Rattle.ordered_json.specs.declared.level.Level.{Level}
 use Rattle.ordered_json.specs.declared.level.Level.TheVariants as level
-use Rattle.ordered_json.specs.declared.mode.Mode.{Mode}
-use Rattle.ordered_json.specs.declared.mode.Mode.TheVariants as mode
-use Rattle.ordered_json.specs.declared.reader.Reader.{Reader}
-use Rattle.ordered_json.specs.Words.{key_of, member_of}
-use Rattle.ordered_json.specs.Grammar.{is_blank, Char, AreChars, IsSpace, print_string, Tree, null, array, object, Elements, no_elements, element, Members, no_members, member, print, print_elements, print_members, lead, colon, IsTree, AreElements, AreMembers, IsPrinted}
-use Rattle.ordered_json.specs.Meaning.{content, value_at, items_at, members_at, has_key, max_depth, IsTaken, ElementsTaken, MembersTaken, HasValue}
+use Rattle.ordered_json.specs.Words.{key_of}
+use Rattle.ordered_json.specs.Grammar.{is_blank, Char, AreChars, IsSpace, print_string, Tree, array, object, no_elements, element, no_members, member, print, lead, IsTree}
+use Rattle.ordered_json.specs.Meaning.{content, value_at, has_key, max_depth, IsTaken, HasValue}
 use Rattle.ordered_json.specs.Faults.{BeginsFaultless}
-use Rattle.ordered_json.proofs.States.{state, Ready, finished}
-use Rattle.ordered_json.proofs.Fronts.{Item, comma_after, print_items, AreItems, item_values, close, print-close, are-close, taken-close, values-close, Entry, comma_past, print_head, print_entries, entry_keys, AreEntries, key_place, entry_member, entry_values, close_members, keys-entries, print-close_members, are-close_members, taken-close_members, values-close_members}
+use Rattle.ordered_json.proofs.States.{Ready}
+use Rattle.ordered_json.proofs.Fronts.{Item, comma_after, print_items, AreItems, item_values, close, print-close, are-close, taken-close, Entry, comma_past, print_entries, entry_keys, AreEntries, entry_values, close_members, keys-entries, print-close_members, are-close_members, taken-close_members}
 
 -- `text` is an open array's up to its last element; `outside` says what stands before its bracket
 pub record ListText (outside : List ℕ → Type 0) (depth p : ℕ) (items : List OrderedJson) (is : List Item) (text : List ℕ) : Type 0 where

@@ -1,45 +1,35 @@
 -- The reader's answer to a text is its value, or a fault that the text has.
-use Rattle.std.specs.Bool.{⊤}
 use Rattle.ordered_json.specs.declared.json.Member.{Member}
-use Rattle.ordered_json.specs.declared.json.OrderedJson.{OrderedJson, Null, List as a_list, Object}
 use Rattle.ordered_json.specs.declared.level.Level.{Level}
 use Rattle.ordered_json.specs.declared.level.Level.TheVariants as level
-use Rattle.ordered_json.specs.declared.mode.Mode.{Mode}
 use Rattle.ordered_json.specs.declared.mode.Mode.TheVariants as mode
 use Rattle.ordered_json.specs.declared.reader.Reader.{Reader}
-use Rattle.ordered_json.specs.Words.{key_of, member_of}
-use Rattle.ordered_json.specs.Grammar.{is_blank, Char, AreChars, IsSpace, print_string, Tree, null, array, object, Elements, no_elements, element, Members, no_members, member, print, print_elements, print_members, lead, colon, IsTree, AreElements, AreMembers, IsPrinted}
-use Rattle.ordered_json.specs.Meaning.{content, value_at, items_at, members_at, has_key, max_depth, IsTaken, ElementsTaken, MembersTaken, HasValue}
-use Rattle.ordered_json.proofs.States.{state, Ready, finished}
-use Rattle.ordered_json.proofs.Fronts.{Item, comma_after, print_items, AreItems, item_values, close, print-close, are-close, taken-close, values-close, Entry, comma_past, print_head, print_entries, entry_keys, AreEntries, key_place, entry_member, entry_values, close_members, keys-entries, print-close_members, are-close_members, taken-close_members, values-close_members}
-use Rattle.ordered_json.proofs.Reached.{ListText, ObjectText, ListAwaits, KeyAwaits, ColonAwaits, MemberAwaits, Awaits, space-snoc, snoc-two, awaits-blank, key_awaits-blank, colon_awaits-blank, awaits-ready, faultless-front, faultless-is, plug}
+use Rattle.ordered_json.specs.Words.{key_of}
+use Rattle.ordered_json.specs.Grammar.{is_blank, Char, AreChars, print_string, print}
+use Rattle.ordered_json.specs.Meaning.{content, has_key}
+use Rattle.ordered_json.proofs.States.{state, finished}
+use Rattle.ordered_json.proofs.Reached.{KeyAwaits, Awaits, awaits-blank, key_awaits-blank, colon_awaits-blank, awaits-ready, faultless-front, faultless-is, plug}
 use Rattle.ordered_json.proofs.Fresh.{fresh_after}
-use Rattle.std.proofs.Common.{◌≡◌, [], ◌∷◌, ◌++◌, ℕ, suc, ◌+◌, ◌-◌, ◌*◌, ◌^◌, min, ◌<◌, ◌≤◌, Bool, true, false, cond, ◌||◌, ◌&&◌, ◌==◌, ◌⊎◌, inl, inr, List, length, take, drop, get_or, map, Option, Some, None, Result, Ok, Err, fold, refl, ap, sym, ◌∙◌, arith, subst, append_assoc, append-nil, length-append}
-use Rattle.std.specs.Prelude.{nat_lt, encode_utf8}
+use Rattle.std.proofs.Common.{◌≡◌, [], ◌∷◌, ◌++◌, ℕ, ◌+◌, ◌-◌, ◌*◌, ◌^◌, min, Bool, true, false, cond, ◌==◌, ◌⊎◌, inl, inr, List, length, take, drop, map, None, Ok, Err, refl, ap, sym, ◌∙◌, arith, subst, append_assoc, append-nil, length-append}
+use Rattle.std.specs.Prelude.{encode_utf8}
 use Rattle.std.proofs.Math.Seq.{take-append_seam, drop-append_seam}
-use Rattle.std.proofs.lemmas.List.{take_more, take_all, take-append-drop}
-use Rattle.std.proofs.lemmas.Bool.Decides.{nat_tests}
-use Rattle.ordered_json.specs.declared.fault.JsonFault.{JsonFault}
-use Rattle.ordered_json.specs.declared.fault.JsonFault.TheVariants.{Syntax, DoubleKey, Fraction, Range, TooDeep, TooLong, Memory}
-use Rattle.ordered_json.specs.declared.json.OrderedJson.{Text, Int, Bool as a_bool}
+use Rattle.ordered_json.specs.declared.fault.JsonFault.TheVariants.{Syntax, DoubleKey}
+use Rattle.ordered_json.specs.declared.json.OrderedJson.{Text}
 use Rattle.ordered_json.specs.declared.mode.Spelled.{Spelled}
 use Rattle.ordered_json.specs.declared.mode.Spelled.TheVariants as spelled
 use Rattle.ordered_json.specs.declared.mode.Spelling.{Spelling}
 use Rattle.ordered_json.specs.declared.mode.Spelling.TheVariants as at
-use Rattle.ordered_json.specs.declared.mode.Word.{Word}
-use Rattle.ordered_json.specs.declared.mode.Word.TheVariants as word
-use Rattle.ordered_json.specs.Grammar.{is_decimal, AreDigits, IsWhole, signed, print_char, print_chars, boolean, number, string}
-use Rattle.ordered_json.specs.Meaning.{magnitude, int_value, fits, char_value}
-use Rattle.ordered_json.specs.Faults.{BeginsFaultless, AwaitsValue, AwaitsKey, HasDoubleKey, HasNumber, HasFraction, IsOutOfRange, IsTooDeep, is_mark, EndsNumber}
-use Rattle.ordered_json.specs.Steps.{Outcome, complete, open_level, close_list, close_object, between, begin_value, begin_key, scalar_mode, go, go_if, step, in_word, in_text, spelled_in, end_text, end_key, next, end_number, after_digits, in_digits, after_minus, and_then, word_text, word_value, letter_at, spell}
+use Rattle.ordered_json.specs.Grammar.{is_decimal, print_char, print_chars, string}
+use Rattle.ordered_json.specs.Meaning.{magnitude, fits, char_value}
+use Rattle.ordered_json.specs.Faults.{BeginsFaultless, AwaitsKey, HasDoubleKey}
+use Rattle.ordered_json.specs.Steps.{complete, close_list, close_object, between, begin_value, begin_key, go, step, in_text, spelled_in, end_text, end_key, after_digits, in_digits, spell}
 use Rattle.ordered_json.proofs.States.{complete_ready}
-use Rattle.ordered_json.proofs.Numbers.{sat, grow, IsNumberMode, sat-grow, small_digit, number_taken, number_refused, or_false, zero_mode, digits_mode, digit_step}
-use Rattle.ordered_json.proofs.Strings.{below, above}
+use Rattle.ordered_json.proofs.Numbers.{sat, grow, sat-grow}
 use Rattle.ordered_json.proofs.Strings.{text_state}
-use Rattle.ordered_json.proofs.Spelled.{IsSpelling, IsRight, SpellsChar, CanSpell, spelled_bytes, spell_right, can_spell, eq_at}
-use Rattle.ordered_json.proofs.Fresh.{content-append, print_chars-append, are-append, Fresh}
-use Rattle.ordered_json.proofs.Values.{ListAfter, ObjectAfter, AfterValue, after_all, after_item, after_entry, finished_after, ClosedList, close_list_text, ClosedObject, close_object_text, closed_list_after, closed_object_after, closed_list_faultless, closed_object_faultless, item_after_closed, entry_after_closed, awaits_faultless, named_faultless, key_awaits_faultless, colon_awaits_faultless, after_faultless, awaits_value, awaits_key}
-use Rattle.ordered_json.proofs.Judged.{FirstOf, WordText, NumberText, StringText, Reached, r_value, r_first_item, r_first_key, r_key, r_colon, r_after, r_word, r_minus, r_zero, r_digits, r_text, r_key_text, Shows, Judges, test_judged, judged_as, syntax_at, one_more, too_deep, begin_judged, key_judged, first_awaits, first_key_awaits, first_blank, first_closed, first_closed_object, list_judged, object_judged, after_judged, word_judged, word_faultless, fold-snoc, digits-snoc, number_more, number_stands, number_after, digits_judged, minus_judged, minus_faultless}
+use Rattle.ordered_json.proofs.Spelled.{IsSpelling, IsRight, SpellsChar, CanSpell, spelled_bytes, spell_right, can_spell}
+use Rattle.ordered_json.proofs.Fresh.{content-append, print_chars-append, are-append}
+use Rattle.ordered_json.proofs.Values.{AfterValue, after_all, after_item, after_entry, finished_after, named_faultless, colon_awaits_faultless, awaits_key}
+use Rattle.ordered_json.proofs.Judged.{StringText, Reached, r_value, r_first_item, r_first_key, r_key, r_colon, r_after, r_word, r_minus, r_zero, r_digits, r_text, r_key_text, Judges, test_judged, judged_as, syntax_at, one_more, begin_judged, key_judged, first_awaits, first_key_awaits, first_blank, first_closed, first_closed_object, list_judged, object_judged, after_judged, word_judged, fold-snoc, digits-snoc, number_more, digits_judged, minus_judged}
 
 -- ---- strings
 -- the characters that are read, the last one made whole

@@ -1,23 +1,20 @@
 -- The reader goes over the characters of a string.
-use Rattle.std.proofs.Common.{◌≡◌, [], ◌∷◌, ◌++◌, ℕ, ◌+◌, ◌-◌, ◌*◌, ◌/◌, ◌%◌, ◌≤◌, ◌<◌, Bool, true, false, cond, ◌||◌, ◌&&◌, ◌==◌, ◌⊎◌, inl, inr, List, length, Option, Some, None, Result, Ok, Err, refl, ap, sym, ◌∙◌, arith, subst, append_assoc, append-nil, length-append}
-use Rattle.std.specs.Bool.{⊤}
+use Rattle.std.proofs.Common.{◌≡◌, [], ◌∷◌, ◌++◌, ℕ, ◌+◌, ◌*◌, ◌/◌, ◌%◌, ◌≤◌, ◌<◌, Bool, true, false, ◌&&◌, ◌==◌, ◌⊎◌, List, length, Option, Ok, refl, ap, sym, arith, subst, append_assoc, append-nil, length-append}
 use Rattle.std.specs.Prelude.{encode_utf8, nat_le, nat_lt, not}
 use Rattle.std.specs.Char.{digit_value, is_digit, IsScalar}
 use Rattle.std.proofs.lemmas.Bool.Decides.{nat_tests}
-use lib.Utf8.{scalar, encode, scalar_cases}
+use lib.Utf8.{encode, scalar_cases}
 use Rattle.ordered_json.specs.declared.json.OrderedJson.{OrderedJson}
 use Rattle.ordered_json.specs.declared.level.Level.{Level}
-use Rattle.ordered_json.specs.declared.mode.Mode.{Mode}
 use Rattle.ordered_json.specs.declared.mode.Mode.TheVariants as mode
-use Rattle.ordered_json.specs.declared.mode.Spelled.{Spelled}
 use Rattle.ordered_json.specs.declared.mode.Spelled.TheVariants as spelled
 use Rattle.ordered_json.specs.declared.mode.Spelling.{Spelling}
 use Rattle.ordered_json.specs.declared.mode.Spelling.TheVariants as at
 use Rattle.ordered_json.specs.declared.reader.Reader.{Reader}
 use Rattle.ordered_json.specs.Grammar.{Char, plain, escaped, coded, paired, CodeUnit, are_hex, unit_value, is_high_surrogate, is_low_surrogate, escape_value, IsChar, AreChars, print_char, print_chars, print_unit}
 use Rattle.ordered_json.specs.Meaning.{char_value, content, pair_value}
-use Rattle.ordered_json.specs.Steps.{Outcome, step, in_text, spell, is_no_low, char_of, two_bytes, three_bytes, four_bytes, is_second, is_tail, is_lead, hex_unit}
-use Rattle.ordered_json.proofs.Runs.{Answers, by_step, by_same, by_place, by_bytes, by_fault}
+use Rattle.ordered_json.specs.Steps.{step, in_text, spell, char_of, two_bytes, three_bytes, four_bytes, is_second, is_tail, is_lead, hex_unit}
+use Rattle.ordered_json.proofs.Runs.{Answers, by_step, by_same, by_place, by_bytes}
 use Rattle.ordered_json.proofs.Accept.{Answer}
 
 -- a string is being read

@@ -1,31 +1,26 @@
 -- The reader goes over whole values and whole texts: it reads them, or it refuses something in them.
-use Rattle.std.proofs.Common.{◌≡◌, [], ◌∷◌, ◌++◌, ℕ, suc, ◌+◌, ◌<◌, Bool, true, false, cond, ◌||◌, ◌⊎◌, inl, inr, List, length, map, Option, Some, None, Result, Ok, Err, refl, ap, sym, ◌∙◌, arith, subst, append_assoc, append-nil, length-append}
-use Rattle.std.specs.Bool.{⊤}
+use Rattle.std.proofs.Common.{◌≡◌, [], ◌∷◌, ◌++◌, ℕ, suc, ◌+◌, ◌<◌, Bool, true, false, ◌⊎◌, inl, inr, List, length, map, Option, None, Ok, Err, refl, ap, sym, ◌∙◌, arith, subst, append_assoc, append-nil, length-append}
 use Rattle.std.specs.Prelude.{nat_lt}
 use Rattle.std.proofs.lemmas.Bool.Decides.{nat_tests}
 use Rattle.std.proofs.lemmas.List.{map-append}
 use Rattle.ordered_json.specs.declared.fault.JsonFault.{JsonFault}
-use Rattle.ordered_json.specs.declared.fault.JsonFault.TheVariants.{Syntax, DoubleKey, Fraction, Range, TooDeep, TooLong, Memory}
+use Rattle.ordered_json.specs.declared.fault.JsonFault.TheVariants.{DoubleKey, Fraction, Range, TooDeep}
 use Rattle.ordered_json.specs.declared.json.Member.{Member}
-use Rattle.ordered_json.specs.declared.json.OrderedJson.{OrderedJson, Null, Bool as a_bool, Int, Text, List as a_list, Object}
+use Rattle.ordered_json.specs.declared.json.OrderedJson.{OrderedJson, List as a_list, Object}
 use Rattle.ordered_json.specs.declared.level.Level.{Level}
 use Rattle.ordered_json.specs.declared.level.Level.TheVariants as level
-use Rattle.ordered_json.specs.declared.mode.Mode.{Mode}
 use Rattle.ordered_json.specs.declared.mode.Mode.TheVariants as mode
-use Rattle.ordered_json.specs.declared.mode.Spelling.TheVariants as at
-use Rattle.ordered_json.specs.declared.reader.Reader.{Reader}
 use Rattle.ordered_json.specs.Words.{key_of, member_of}
-use Rattle.ordered_json.specs.Grammar.{Char, AreChars, is_blank, is_decimal, IsSpace, IsFraction, IsExponent, signed, print_chars, print_string, Tree, null, boolean, number, string, array, object, Elements, no_elements, element, Members, no_members, member, print, print_elements, print_members, lead, colon, IsTree, AreElements, AreMembers, IsPrinted}
-use Rattle.ordered_json.specs.Meaning.{magnitude, int_value, fits, content, value_at, items_at, members_at, has_key, max_depth, IsTaken, ElementsTaken, MembersTaken}
+use Rattle.ordered_json.specs.Grammar.{Char, AreChars, IsSpace, signed, print_string, Tree, null, boolean, number, string, array, object, Elements, no_elements, element, Members, no_members, member, print, print_elements, print_members, lead, colon, IsTree, AreElements, AreMembers, IsPrinted}
+use Rattle.ordered_json.specs.Meaning.{magnitude, fits, content, value_at, items_at, members_at, has_key, max_depth, IsTaken, ElementsTaken, MembersTaken}
 use Rattle.ordered_json.specs.Faults.{is_mark, EndsNumber}
-use Rattle.ordered_json.specs.Steps.{Outcome, complete, open_level, close_list, close_object, between, begin_value, step, in_text, end_text, end_key, next, settle, answer, answer_from, and_then, finish, start}
+use Rattle.ordered_json.specs.Steps.{step, settle, answer, start}
 use Rattle.ordered_json.proofs.Keys.{key_of-member_of}
 use Rattle.ordered_json.proofs.Runs.{Answers, by_step, by_same, by_place, by_bytes, by_fault}
-use Rattle.ordered_json.proofs.States.{state, Ready, finished, complete_ready, awaiting, blank_step}
+use Rattle.ordered_json.proofs.States.{state, Ready, finished, awaiting}
 use Rattle.ordered_json.proofs.Accept.{Answer, Waits, awaiting_waits, spaces, reads_null, reads_true, reads_false}
-use Rattle.ordered_json.proofs.Numbers.{IsNumberMode, number_read, number_ends, number_too_large, number_marked}
-use Rattle.ordered_json.proofs.Strings.{text_state, chars_read}
-use Rattle.ordered_json.proofs.Trees.{IsRefusal, Reads, string_read, key_mode, key_read, key_refused, comma_of, ends_space, ends_blank, ends_elements, ends_members, list_mode, list_waits, object_mode, object_waits, list_closes, object_closes, list_lead, object_lead, colon_read, list_opens, object_opens, list_too_deep, object_too_deep}
+use Rattle.ordered_json.proofs.Numbers.{number_read, number_ends, number_too_large, number_marked}
+use Rattle.ordered_json.proofs.Trees.{IsRefusal, Reads, string_read, key_read, key_refused, comma_of, ends_blank, ends_elements, ends_members, list_mode, list_waits, object_mode, object_waits, list_closes, object_closes, list_lead, object_lead, colon_read, list_opens, object_opens, list_too_deep, object_too_deep}
 
 -- ---- numbers
 plain_number : (f minus : Bool) (ds : List ℕ) (p : ℕ) (rest : List ℕ) (ls : List Level) (o : Option OrderedJson) (x : Answer) (fit : Bool) → fits minus (magnitude ds) ≡ fit → IsTree (number minus ds [] []) → Ready ls → EndsNumber rest → Answers (p + length (print (number minus ds [] []))) rest (Ok (finished (value_at p (number minus ds [] [])) ls o)) x → Reads (IsTaken (length ls) (number minus ds [] [])) p (print (number minus ds [] []) ++ rest) (Ok (state (awaiting f) ls o)) x

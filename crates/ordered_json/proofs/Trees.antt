@@ -1,29 +1,25 @@
 -- The reader goes over what the grammar prints: it reads the value, or it refuses something.
-use Rattle.std.proofs.Common.{◌≡◌, [], ◌∷◌, ◌++◌, ℕ, suc, ◌+◌, ◌<◌, Bool, true, false, cond, ◌||◌, ◌⊎◌, inl, inr, List, length, map, Option, Some, None, Result, Ok, Err, refl, ap, sym, ◌∙◌, arith, subst, append_assoc, append-nil, length-append}
+use Rattle.std.proofs.Common.{◌≡◌, [], ◌∷◌, ◌++◌, ℕ, ◌+◌, Bool, true, false, ◌||◌, ◌⊎◌, List, length, map, Option, Ok, Err, refl, sym, ◌∙◌, arith, subst, append_assoc, length-append}
 use Rattle.std.specs.Bool.{⊤}
 use Rattle.std.specs.Prelude.{nat_lt}
 use Rattle.std.proofs.lemmas.Bool.Decides.{nat_tests}
-use Rattle.std.proofs.lemmas.List.{map-append}
 use Rattle.ordered_json.specs.declared.fault.JsonFault.{JsonFault}
 use Rattle.ordered_json.specs.declared.fault.JsonFault.TheVariants.{Syntax, DoubleKey, Fraction, Range, TooDeep, TooLong, Memory}
 use Rattle.ordered_json.specs.declared.json.Member.{Member}
-use Rattle.ordered_json.specs.declared.json.OrderedJson.{OrderedJson, Null, Bool as a_bool, Int, Text, List as a_list, Object}
+use Rattle.ordered_json.specs.declared.json.OrderedJson.{OrderedJson, Text, List as a_list, Object}
 use Rattle.ordered_json.specs.declared.level.Level.{Level}
 use Rattle.ordered_json.specs.declared.level.Level.TheVariants as level
 use Rattle.ordered_json.specs.declared.mode.Mode.{Mode}
 use Rattle.ordered_json.specs.declared.mode.Mode.TheVariants as mode
 use Rattle.ordered_json.specs.declared.mode.Spelling.TheVariants as at
-use Rattle.ordered_json.specs.declared.reader.Reader.{Reader}
-use Rattle.ordered_json.specs.Words.{key_of, member_of}
-use Rattle.ordered_json.specs.Grammar.{Char, AreChars, is_blank, is_decimal, IsSpace, IsFraction, IsExponent, signed, print_chars, print_string, Tree, null, boolean, number, string, array, object, Elements, no_elements, element, Members, no_members, member, print, print_elements, print_members, lead, colon, IsTree, AreElements, AreMembers, IsPrinted}
-use Rattle.ordered_json.specs.Meaning.{magnitude, int_value, fits, content, value_at, items_at, members_at, has_key, max_depth, IsTaken, ElementsTaken, MembersTaken}
+use Rattle.ordered_json.specs.Words.{key_of}
+use Rattle.ordered_json.specs.Grammar.{Char, AreChars, is_blank, is_decimal, IsSpace, print_chars, print_string, Elements, no_elements, element, Members, no_members, member, print, print_elements, print_members, lead, colon, AreElements, AreMembers}
+use Rattle.ordered_json.specs.Meaning.{content, has_key, max_depth}
 use Rattle.ordered_json.specs.Faults.{is_mark, EndsNumber}
-use Rattle.ordered_json.specs.Steps.{Outcome, complete, open_level, close_list, close_object, between, begin_value, step, in_text, end_text, end_key, next, settle, answer, answer_from, and_then, finish, start}
-use Rattle.ordered_json.proofs.Keys.{key_of-member_of}
-use Rattle.ordered_json.proofs.Runs.{Answers, by_step, by_same, by_place, by_bytes, by_fault}
-use Rattle.ordered_json.proofs.States.{state, Ready, finished, complete_ready, awaiting, blank_step}
-use Rattle.ordered_json.proofs.Accept.{Answer, Waits, awaiting_waits, spaces, reads_null, reads_true, reads_false}
-use Rattle.ordered_json.proofs.Numbers.{IsNumberMode, number_read, number_ends, number_too_large, number_marked}
+use Rattle.ordered_json.specs.Steps.{Outcome, close_list, close_object, between, begin_value, step, in_text, end_text, end_key, next}
+use Rattle.ordered_json.proofs.Runs.{Answers, by_step, by_place, by_bytes, by_fault}
+use Rattle.ordered_json.proofs.States.{state, Ready, finished, complete_ready, awaiting}
+use Rattle.ordered_json.proofs.Accept.{Answer, Waits, awaiting_waits, spaces}
 use Rattle.ordered_json.proofs.Strings.{text_state, chars_read}
 
 -- a fault that a text has by what it says, and not by its syntax

@@ -1,20 +1,18 @@
 -- A value is read: the text so far, and how it can go on.
-use Rattle.std.proofs.Common.{◌≡◌, [], ◌∷◌, ◌++◌, ℕ, suc, ◌+◌, ◌<◌, Bool, true, false, List, length, map, Option, Some, None, refl, ap, sym, ◌∙◌, arith, subst, append_assoc, append-nil, length-append}
-use Rattle.std.specs.Bool.{⊤}
+use Rattle.std.proofs.Common.{◌≡◌, [], ◌∷◌, ◌++◌, ℕ, suc, ◌+◌, false, List, length, map, Some, None, refl, ap, sym, ◌∙◌, arith, subst, append_assoc, append-nil, length-append}
 use Rattle.ordered_json.specs.declared.json.Member.{Member}
-use Rattle.ordered_json.specs.declared.json.OrderedJson.{OrderedJson, Null, List as a_list, Object}
+use Rattle.ordered_json.specs.declared.json.OrderedJson.{OrderedJson, List as a_list, Object}
 use Rattle.ordered_json.specs.declared.level.Level.{Level}
 use Rattle.ordered_json.specs.declared.level.Level.TheVariants as level
-use Rattle.ordered_json.specs.declared.mode.Mode.{Mode}
 use Rattle.ordered_json.specs.declared.mode.Mode.TheVariants as mode
 use Rattle.ordered_json.specs.declared.reader.Reader.{Reader}
 use Rattle.ordered_json.specs.Words.{key_of, member_of}
-use Rattle.ordered_json.specs.Grammar.{is_blank, Char, AreChars, IsSpace, print_string, Tree, null, array, object, Elements, no_elements, element, Members, no_members, member, print, print_elements, print_members, lead, colon, IsTree, AreElements, AreMembers, IsPrinted}
-use Rattle.ordered_json.specs.Meaning.{content, value_at, items_at, members_at, has_key, max_depth, IsTaken, ElementsTaken, MembersTaken, HasValue}
+use Rattle.ordered_json.specs.Grammar.{Char, AreChars, IsSpace, print_string, Tree, null, array, object, no_elements, no_members, print, lead, colon, IsTree}
+use Rattle.ordered_json.specs.Meaning.{content, value_at, has_key, IsTaken, HasValue}
 use Rattle.ordered_json.specs.Faults.{BeginsFaultless, AwaitsValue, AwaitsKey}
-use Rattle.ordered_json.proofs.States.{state, Ready, finished}
-use Rattle.ordered_json.proofs.Fronts.{Item, comma_after, print_items, AreItems, item_values, close, print-close, are-close, taken-close, values-close, Entry, comma_past, print_head, print_entries, entry_keys, AreEntries, key_place, entry_member, entry_values, close_members, keys-entries, print-close_members, are-close_members, taken-close_members, values-close_members}
-use Rattle.ordered_json.proofs.Reached.{ListText, ObjectText, ListAwaits, KeyAwaits, ColonAwaits, MemberAwaits, Awaits, space-snoc, snoc-two, awaits-blank, key_awaits-blank, colon_awaits-blank, awaits-ready, faultless-front, faultless-is, plug}
+use Rattle.ordered_json.proofs.States.{state, finished}
+use Rattle.ordered_json.proofs.Fronts.{Item, comma_after, print_items, item_values, close, print-close, are-close, taken-close, values-close, Entry, comma_past, print_entries, entry_values, close_members, keys-entries, print-close_members, are-close_members, taken-close_members, values-close_members}
+use Rattle.ordered_json.proofs.Reached.{ListText, ObjectText, KeyAwaits, ColonAwaits, Awaits, awaits-blank, key_awaits-blank, faultless-front, faultless-is, plug}
 use Rattle.ordered_json.proofs.Fresh.{fresh_after}
 
 -- an array that has elements, and white space

@@ -1,8 +1,7 @@
 -- The reader's answer to a whole text.
-use Rattle.std.proofs.Common.{◌≡◌, ◌≢◌, [], ◌∷◌, ◌++◌, ℕ, suc, ◌+◌, ◌<◌, ◌≤◌, Bool, true, false, cond, ◌⊎◌, inl, inr, List, length, take, drop, Option, Some, None, Result, Ok, Err, refl, ap, sym, ◌∙◌, arith, subst, append_assoc, append-nil, length-append}
-use Rattle.std.specs.Bool.{⊤}
+use Rattle.std.proofs.Common.{◌≡◌, ◌≢◌, [], ◌∷◌, ◌++◌, ℕ, ◌+◌, ◌≤◌, Bool, true, false, ◌⊎◌, inl, inr, List, length, take, None, Ok, Err, refl, ap, sym, ◌∙◌, arith, subst, append_assoc, append-nil, length-append}
 use Rattle.std.specs.Prelude.{IfOk, IfErr}
-use Rattle.std.proofs.Math.Seq.{take-append_seam, drop-append_seam}
+use Rattle.std.proofs.Math.Seq.{take-append_seam}
 use Rattle.std.proofs.lemmas.List.{take_all}
 use Rattle.ordered_json.specs.declared.fault.JsonFault.{JsonFault}
 use Rattle.ordered_json.specs.declared.fault.JsonFault.TheVariants.{Syntax, DoubleKey, Fraction, Range, TooDeep, TooLong, Memory}
@@ -11,17 +10,17 @@ use Rattle.ordered_json.specs.declared.level.Level.{Level}
 use Rattle.ordered_json.specs.declared.mode.Mode.{Mode}
 use Rattle.ordered_json.specs.declared.mode.Mode.TheVariants as mode
 use Rattle.ordered_json.specs.declared.reader.Reader.{Reader}
-use Rattle.ordered_json.specs.Grammar.{IsPrinted, IsJson, IsWhole}
+use Rattle.ordered_json.specs.Grammar.{IsJson, IsWhole}
 use Rattle.ordered_json.specs.Meaning.{magnitude, int_value, fits, value_at, IsTaken, HasValue, Means, max_len}
 use Rattle.ordered_json.specs.Faults.{Begins, BeginsFaultless, HasSyntaxFault, HasDoubleKey, HasNumber, HasFraction, IsOutOfRange, IsTooDeep, HasFault}
 use Rattle.ordered_json.specs.Steps.{Outcome, answer, answer_from, answer_of, finish, settle, end_number, step, start}
 use Rattle.ordered_json.proofs.Runs.{answer_from-err}
 use Rattle.ordered_json.proofs.States.{state, finished}
 use Rattle.ordered_json.proofs.Accept.{Answer}
-use Rattle.ordered_json.proofs.Numbers.{sat, IsNumberMode, zero_mode, digits_mode, number_taken, number_refused}
+use Rattle.ordered_json.proofs.Numbers.{sat, number_taken, number_refused}
 use Rattle.ordered_json.proofs.Trees.{IsRefusal}
 use Rattle.ordered_json.proofs.Texts.{answers_json}
-use Rattle.ordered_json.proofs.Reached.{Awaits, awaits-ready}
+use Rattle.ordered_json.proofs.Reached.{awaits-ready}
 use Rattle.ordered_json.proofs.Values.{AfterValue, after_all, after_item, after_entry, after_faultless, awaits_faultless, key_awaits_faultless, colon_awaits_faultless, closed_list_faultless, closed_object_faultless}
 use Rattle.ordered_json.proofs.Judged.{NumberText, Reached, r_value, r_first_item, r_first_key, r_key, r_colon, r_after, r_word, r_minus, r_zero, r_digits, r_text, r_key_text, Shows, Judges, first_closed, first_closed_object, word_faultless, minus_faultless, number_stands, number_after}
 use Rattle.ordered_json.proofs.Soundness.{reached_step, text_faultless, key_text_faultless}
