@@ -10,3 +10,6 @@ pub use flat::{FlatMachine, FlatMachines, FlatState, FlatStates, Move, Moves};
 pub use laws::{actors_follow_their_letters, callers_are_served_in_order};
 pub use office::{Claim, Core, Event, FlatValue, Plan, Refused, StepRefused};
 pub use request::{Ask, Reply, Request, Word};
+
+#[cfg(test)]
+mod tests;
