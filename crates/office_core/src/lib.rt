@@ -7,6 +7,11 @@ mod office;
 mod request;
 
 pub use flat::{FlatMachine, FlatMachines, FlatState, FlatStates, Move, Moves};
-pub use laws::{actors_follow_their_letters, callers_are_served_in_order};
+pub use laws::{
+    actors_follow_their_letters, callers_are_served_in_order, next_actor_has_least_letter,
+};
 pub use office::{Claim, Core, Event, FlatValue, Plan, Refused, StepRefused};
 pub use request::{Ask, Reply, Request, Word};
+
+#[cfg(test)]
+mod tests;
