@@ -1,0 +1,12 @@
+//! The office's core: flat machines, requests, and the office that decides them and steps its actors.
+#![tactic(auto)]
+
+mod flat;
+mod flat_text;
+mod request;
+mod request_line;
+
+pub use flat::{FlatMachine, FlatMachines, FlatState, FlatStates, Move, Moves};
+pub use flat_text::{FlatFault, read_flat};
+pub use request::{Ask, Reply, Request, Word};
+pub use request_line::{LineFault, read_request};
