@@ -1,2 +1,3 @@
 pub mod FlatText
+pub mod LineParts
 pub mod RequestLine

@@ -27,10 +27,14 @@ is_lowercase b = nat_le 97 b && nat_le b 122
 abbrev pub is_decimal : ℕ → Bool
 is_decimal b = nat_le 48 b && nat_le b 57
 
--- a letter from a to z, then at most 63 of a to z, 0 to 9 and `-`
+-- a to z, 0 to 9, or `-`
+abbrev pub is_caller_byte : ℕ → Bool
+is_caller_byte b = is_lowercase b || (is_decimal b || (b == 45))
+
+-- a letter from a to z, then at most 63 bytes of a caller
 abbrev pub is_caller : List ℕ → Bool
 is_caller [] = false
-is_caller (b ∷ bs) = is_lowercase b && (nat_le (length bs) 63 && list_all (λ c. is_lowercase c || (is_decimal c || (c == 45))) bs)
+is_caller (b ∷ bs) = is_lowercase b && (nat_le (length bs) 63 && list_all is_caller_byte bs)
 
 -- 1 to 256 bytes of text, no space and no byte below 33 among them
 pub record IsName (name : List ℕ) : Type 0 where
