@@ -1,2 +1,4 @@
+pub mod FlatLemmas
 pub mod LineLemmas
+pub mod MapLemmas
 pub mod RequestLemmas

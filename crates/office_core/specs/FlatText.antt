@@ -1,5 +1,5 @@
 -- An office of flat machines as a JSON value: what the value means, if it is such an office.
-use Rattle.std.specs.Prelude.{◌≡◌, ℕ, Bool, true, false, not, ◌&&◌, List, [], ◌∷◌, map, length, Option, None, Some, Result, Ok, Err, ⊤, codes, find, position, option_map, option_and_then, slice_index, nat_eq, nat_lt, if◌then◌else◌}
+use Rattle.std.specs.Prelude.{◌≡◌, ℕ, Bool, true, false, not, ◌&&◌, ◌==◌, List, [], ◌∷◌, map, length, Option, None, Some, Result, Ok, Err, ⊤, codes, find, position, option_map, option_and_then, slice_index, nat_eq, nat_lt, if◌then◌else◌}
 use Rattle.std.specs.List.{list_all, list_any, ends_with}
 use Rattle.std.specs.Str.{bytes_eq}
 use Rattle.ordered_json.specs.declared.json.OrderedJson.{OrderedJson}
@@ -22,6 +22,10 @@ only_if test value = if test then Some value else None
 -- a key, its place and its value
 abbrev pub Member : Type 0
 Member = List ℕ × ℕ × OrderedJson
+
+-- the keys of members, in order
+abbrev pub keys_of : List Member → List (List ℕ)
+keys_of members = map (λ member. member.0) members
 
 -- the value under a key
 abbrev pub value_under : List ℕ → List Member → Option OrderedJson
@@ -47,10 +51,10 @@ is_descriptor key = not (bytes_eq key (codes "*")) && not (ends_with nat_eq key 
 
 -- a key that a target can name
 abbrev pub is_state_key : List ℕ → Bool
-is_state_key key = nat_lt 0 (length key) && (not (list_any (nat_eq 46) key) && not (nat_eq (slice_index key 0) 35))
+is_state_key key = nat_lt 0 (length key) && (not (list_any (λ b. b == 46) key) && not (slice_index key 0 == 35))
 
 -- where a state stands among the keys
-abbrev pub place_of_state : List (List ℕ) → List ℕ → Option ℕ
+unfoldable pub place_of_state : List (List ℕ) → List ℕ → Option ℕ
 place_of_state keys key = position (λ k. bytes_eq k key) keys
 
 -- a transition: a descriptor, and the key of a sibling
@@ -81,8 +85,8 @@ machine_in json = do
   id ← value_under (codes "id") fields >>= text_of
   initial ← value_under (codes "initial") fields >>= text_of
   members ← value_under (codes "states") fields >>= members_of
-  states ← each_of (state_of (map (λ member. member.0) members)) members
-  place ← place_of_state (map (λ member. member.0) members) initial
+  states ← each_of (state_of (keys_of members)) members
+  place ← place_of_state (keys_of members) initial
   only_if (nat_lt 0 (length id)) (record { id = id; initial = place; states = states })
 
 -- no text stands twice
@@ -95,12 +99,12 @@ abbrev pub office_in : OrderedJson → Option (List FlatMachine)
 office_in json = do
   fields ← fields_of (codes "machines" ∷ codes "implementations" ∷ []) json
   texts ← value_under (codes "machines") fields >>= items_of
-  machines ← each_of machine_in texts
   implementations ← value_under (codes "implementations") fields >>= members_of
+  machines ← each_of machine_in texts
   only_if (nat_eq (length implementations) 0 && are_distinct (map (λ machine. machine.id) machines)) machines
 
--- an office is read, or the value is none; memory may run out anywhere
-abbrev pub ReadsFlat : OrderedJson → Result (List FlatMachine) FlatFault → Type 0
-ReadsFlat json (Ok machines) = office_in json ≡ Some machines
-ReadsFlat json (Err NotFlat) = office_in json ≡ None
-ReadsFlat json (Err Memory) = ⊤
+-- What was read is what the value means, or the value has no such meaning; memory may run out anywhere.
+abbrev pub Gives : {X : Type 0} → Option X → Result X FlatFault → Type 0
+Gives meaning (Ok x) = meaning ≡ Some x
+Gives meaning (Err NotFlat) = meaning ≡ None
+Gives meaning (Err Memory) = ⊤

@@ -3,6 +3,7 @@
 
 mod flat;
 mod flat_text;
+mod json_words;
 mod request;
 mod request_line;
 
