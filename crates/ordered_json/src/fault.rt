@@ -1,3 +1,7 @@
+ghost use Rattle.std.specs.Prelude.{◌≡◌};
+ghost use Rattle.ordered_json.specs.declared.fault.JsonFault.TheVariants.{Memory};
+
+use std::alloc::AllocError;
 use thiserror::Error;
 
 /// Why a text is no JSON text that is taken here. Each fault but `TooLong` and `Memory` carries its
@@ -40,5 +44,13 @@ impl JsonFault {
             JsonFault::TooLong => 1_048_576,
             JsonFault::Memory => 0,
         }
+    }
+}
+
+impl From<AllocError> for JsonFault {
+    ghost from_gives = { λ _ e. e ≡ Memory };
+
+    fn from(_error: AllocError) -> JsonFault {
+        JsonFault::Memory
     }
 }

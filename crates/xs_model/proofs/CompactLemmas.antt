@@ -1,10 +1,8 @@
 -- The compact text of each kind of value, and its length.
-use Rattle.std.proofs.Common.{◌≡◌, ℕ, suc, ◌+◌, max, List, [], ◌∷◌, ◌++◌, length, map, sum_by, arith, rules, refl, ap, ◌∙◌, sym, length-append, codes, true, false, ℤ}
-use Rattle.std.specs.Fmt.{signed_decimal}
+use Rattle.std.proofs.Common.{◌≡◌, ℕ, ◌+◌, max, List, [], ◌∷◌, length, map, sum_by, arith, rules, refl, ap, length-append}
 use Rattle.std.specs.List.{join_with_byte}
-use Rattle.std.specs.Map.{values_of}
 use Rattle.std.proofs.lemmas.List.Sums.{sum_by-cons}
-use Rattle.xs_model.specs.Compact.{quoted_text, bracketed, member_text, keyed_text, compact_text}
+use Rattle.xs_model.specs.Compact.{bracketed, member_text, keyed_text, compact_text}
 use Rattle.xs_model.specs.declared.value.Value.{Value, the_lemmas}
 use Rattle.xs_model.specs.declared.value.Value.TheVariants as value
 

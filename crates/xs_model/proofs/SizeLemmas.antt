@@ -1,5 +1,5 @@
 -- Lengths of compact texts.
-use Rattle.std.proofs.Common.{◌<◌, ◌≤◌, decimal, ◌/◌, ◌%◌, ◌^◌, ◌∙◌, ap, ◌≡◌, ℕ, ◌+◌, List, length, Bool, true, false, cond, nat_lt, sum_by, refl, arith, length-append}
+use Rattle.std.proofs.Common.{◌<◌, ◌≤◌, decimal, ◌/◌, ◌^◌, ◌∙◌, ap, ◌≡◌, ℕ, ◌+◌, List, length, Bool, true, false, cond, nat_lt, sum_by, refl, arith, length-append}
 use Rattle.std.proofs.lemmas.List.Concat.{length-flat_map}
 use Rattle.std.proofs.lemmas.Fmt.{decimal_digit, decimal_step}
 use Rattle.json.specs.Print.{escape_byte, escape_letter, quoted}

@@ -1,11 +1,11 @@
 -- What an expression gives in an environment: the table of forms, one equation for each row.
-use Rattle.std.specs.Prelude.{ℕ, ◌-◌, ◌^◌, Bool, true, false, not, ◌&&◌, List, [], ◌∷◌, ◌++◌, length, map, fold, Option, Some, None, Result, Ok, Err, if◌then◌else◌, nat_le, ℤ, pos, negsuc, ◌+ℤ◌, ◌-ℤ◌, ◌*ℤ◌, int_lt, int_le, int_div, int_rem}
+use Rattle.std.specs.Prelude.{◌≡◌, ◌≢◌, MatchResult, ℕ, ◌-◌, ◌^◌, Bool, true, false, not, ◌&&◌, List, [], ◌∷◌, ◌++◌, length, map, fold, Option, Some, None, Result, Ok, Err, if◌then◌else◌, nat_le, ℤ, pos, negsuc, ◌+ℤ◌, ◌-ℤ◌, ◌*ℤ◌, int_lt, int_le, int_div, int_rem}
 use Rattle.std.specs.Ordering.{nat_cmp, int_eq, is_lt, is_le}
 use Rattle.std.specs.Cmp.Lexicographic.{slice_cmp}
 use Rattle.std.specs.Fmt.{signed_decimal}
 use Rattle.xs_model.specs.declared.env.Env.{Env}
 use Rattle.xs_model.specs.declared.env.EvalFault.{EvalFault}
-use Rattle.xs_model.specs.declared.env.EvalFault.TheVariants.{Missing, Kind, Range, TooLarge}
+use Rattle.xs_model.specs.declared.env.EvalFault.TheVariants.{Missing, Kind, Range, TooLarge, Memory}
 use Rattle.xs_model.specs.declared.expr.Expr.{Expr, fold-Expr}
 use Rattle.xs_model.specs.declared.expr.Expr.TheOpen.{Expr-F}
 use Rattle.xs_model.specs.declared.expr.Source.{Source}
@@ -35,9 +35,13 @@ abbrev pub one : {X Y : Type 0} → Result X EvalFault → (X → Result Y EvalF
 one (Err fault) make = Err fault
 one (Ok x) make = make x
 
--- the first operand's fault, the second's, or what is made of both values
+-- both operands, the first one's fault before the second's
+abbrev pub pair_of : Outcome → Outcome → Result (Value × Value) EvalFault
+pair_of a b = one a (λ x. one b (λ y. Ok (x, y)))
+
+-- what is made of both operands
 abbrev pub both : Outcome → Outcome → (Value → Value → Outcome) → Outcome
-both a b make = one a (λ x. one b (λ y. make x y))
+both a b make = one (pair_of a b) (λ p. make p.0 p.1)
 
 -- ---- limits
 
@@ -111,10 +115,14 @@ compare Less (Value-F.Text s) (Value-F.Text t) = Ok (value.Bool (is_lt (slice_cm
 compare LessOrEqual (Value-F.Text s) (Value-F.Text t) = Ok (value.Bool (is_le (slice_cmp nat_cmp s t)))
 compare _ _ _ = Err Kind
 
--- what is made of a truth value; another kind is Kind
-abbrev pub on_bool : (Bool → Outcome) → Value-F Value → Outcome
-on_bool make (Value-F.Bool b) = make b
-on_bool make _ = Err Kind
+-- a truth value; another kind is Kind
+abbrev pub truth : Value-F Value → Result Bool EvalFault
+truth (Value-F.Bool b) = Ok b
+truth _ = Err Kind
+
+-- the truth value that an operand gives
+abbrev pub truth_of : Outcome → Result Bool EvalFault
+truth_of a = one a (λ x. truth (out-Value x))
 
 abbrev pub a_bool : Bool → Outcome
 a_bool b = Ok (value.Bool b)
@@ -122,9 +130,9 @@ a_bool b = Ok (value.Bool b)
 -- the first operand's truth value decides whether the second is asked
 abbrev pub connect : Connective → Bool → Outcome → Outcome
 connect And false b = a_bool false
-connect And true b = one b (λ y. on_bool a_bool (out-Value y))
+connect And true b = one (truth_of b) a_bool
 connect Or true b = a_bool true
-connect Or false b = one b (λ y. on_bool a_bool (out-Value y))
+connect Or false b = one (truth_of b) a_bool
 
 -- ---- lists and maps
 
@@ -144,29 +152,45 @@ sorted members = fold (λ done member. put done member.0 member.1) [] members
 
 -- ---- the table
 
--- what an expression gives whose parts give these outcomes
+-- what an expression gives, before the limits, whose parts give these outcomes
 abbrev pub row : Env → Expr-F Outcome → Outcome
 row env Expr-F.Null = Ok value.Null
 row env (Expr-F.Bool b) = Ok (value.Bool b)
 row env (Expr-F.Int n) = Ok (value.Int n)
 row env (Expr-F.Text text) = Ok (value.Text text)
-row env (Expr-F.List parts) = limited (one (collect parts) (λ members. Ok (value.List members)))
-row env (Expr-F.Map parts) = limited (one (collect (map keyed parts)) (λ members. Ok (value.Map (sorted members))))
-row env (Expr-F.Path source path) = limited (found (at_path path (begin source env)))
-row env (Expr-F.OrElse a b) = limited (or_else a b)
-row env (Expr-F.Arithmetic op a b) = limited (both a b (λ x y. arithmetic op (out-Value x) (out-Value y)))
-row env (Expr-F.Division op a b) = limited (both a b (λ x y. division op (out-Value x) (out-Value y)))
-row env (Expr-F.Concat a b) = limited (both a b (λ x y. concat (out-Value x) (out-Value y)))
-row env (Expr-F.Decimal a) = limited (one a (λ x. decimal_text (out-Value x)))
-row env (Expr-F.Append a b) = limited (both a b (λ x y. append (out-Value x) y))
-row env (Expr-F.Len a) = limited (one a (λ x. len (out-Value x)))
-row env (Expr-F.Equal a b) = limited (both a b (λ x y. a_bool (same x y)))
-row env (Expr-F.Compare op a b) = limited (both a b (λ x y. compare op (out-Value x) (out-Value y)))
-row env (Expr-F.Connect op a b) = limited (one a (λ x. on_bool (λ decided. connect op decided b) (out-Value x)))
-row env (Expr-F.Not a) = limited (one a (λ x. on_bool (λ b. a_bool (not b)) (out-Value x)))
-row env (Expr-F.If c a b) = limited (one c (λ x. on_bool (λ yes. if yes then a else b) (out-Value x)))
-row env (Expr-F.Lit x) = limited (Ok x)
+row env (Expr-F.List parts) = one (collect parts) (λ members. Ok (value.List members))
+row env (Expr-F.Map parts) = one (collect (map keyed parts)) (λ members. Ok (value.Map (sorted members)))
+row env (Expr-F.Path source path) = found (at_path path (begin source env))
+row env (Expr-F.OrElse a b) = or_else a b
+row env (Expr-F.Arithmetic op a b) = both a b (λ x y. arithmetic op (out-Value x) (out-Value y))
+row env (Expr-F.Division op a b) = both a b (λ x y. division op (out-Value x) (out-Value y))
+row env (Expr-F.Concat a b) = both a b (λ x y. concat (out-Value x) (out-Value y))
+row env (Expr-F.Decimal a) = one a (λ x. decimal_text (out-Value x))
+row env (Expr-F.Append a b) = both a b (λ x y. append (out-Value x) y)
+row env (Expr-F.Len a) = one a (λ x. len (out-Value x))
+row env (Expr-F.Equal a b) = both a b (λ x y. a_bool (same x y))
+row env (Expr-F.Compare op a b) = both a b (λ x y. compare op (out-Value x) (out-Value y))
+row env (Expr-F.Connect op a b) = one (truth_of a) (λ first. connect op first b)
+row env (Expr-F.Not a) = one (truth_of a) (λ b. a_bool (not b))
+row env (Expr-F.If c a b) = one (truth_of c) (λ yes. if yes then a else b)
+row env (Expr-F.Lit x) = Ok x
+
+-- a scalar has no limit of its own
+abbrev pub is_scalar : {X : Type 0} → Expr-F X → Bool
+is_scalar Expr-F.Null = true
+is_scalar (Expr-F.Bool b) = true
+is_scalar (Expr-F.Int n) = true
+is_scalar (Expr-F.Text text) = true
+is_scalar _ = false
+
+-- what an expression gives whose parts give these outcomes
+abbrev pub within_limits : Env → Expr-F Outcome → Outcome
+within_limits env layer = if is_scalar layer then row env layer else limited (row env layer)
 
 -- what an expression gives
 abbrev pub outcome : Env → Expr → Outcome
-outcome env = fold-Expr Outcome (row env)
+outcome env = fold-Expr Outcome (within_limits env)
+
+-- the result is this outcome, unless there was no memory
+abbrev pub Gives : {X : Type 0} → Result X EvalFault → Result X EvalFault → Type 0
+Gives result expected = MatchResult result (λ x. expected ≡ Ok x) (λ fault. fault ≢ Memory → expected ≡ Err fault)

@@ -1,9 +1,9 @@
 -- Where a path leads in a value.
 use Rattle.std.specs.Prelude.{ℕ, suc, ◌==◌, List, [], ◌∷◌, Option, Some, None, option_and_then, if◌then◌else◌, bytes_eq, decimal}
 use Rattle.std.specs.List.{slice_split}
-use Rattle.std.specs.Map.{lookup}
 use Rattle.xs_model.specs.declared.value.Value.{Value, out-Value}
 use Rattle.xs_model.specs.declared.value.Value.TheOpen.{Value-F}
+use Rattle.xs_model.specs.Rising.{get}
 
 -- the keys that dots join; the empty path has none
 abbrev pub path_keys : List ℕ → List (List ℕ)
@@ -18,7 +18,7 @@ member_at key place (member ∷ members) = if bytes_eq key (decimal place) then 
 -- what a key finds in one layer: a member of a list by its place from 0, a member of a map by its key
 abbrev pub layer_step : List ℕ → Value-F Value → Option Value
 layer_step key (Value-F.List members) = member_at key 0 members
-layer_step key (Value-F.Map members) = lookup (bytes_eq key) members
+layer_step key (Value-F.Map members) = get key members
 layer_step key _ = None
 
 -- what a key finds in a value

@@ -7,7 +7,9 @@ use xs_data::Items;
 #[cycle(action)]
 pub enum Action {
     /// `assign`: new values for these keys of the context, in the order of the text.
-    Assign { values: Parts },
+    Assign {
+        values: Parts,
+    },
     /// `raise`: an event to the actor itself.
     Raise {
         event: Expr,
@@ -22,7 +24,9 @@ pub enum Action {
         id: Option<Expr>,
     },
     /// `cancel`: the id of a timer.
-    Cancel { id: Expr },
+    Cancel {
+        id: Expr,
+    },
     /// `spawnChild`: `src` is the number in the table of the actor that is named.
     SpawnChild {
         src: u32,
@@ -31,9 +35,13 @@ pub enum Action {
         system: Option<Expr>,
     },
     /// `stopChild`: the id of a child.
-    StopChild { id: Expr },
+    StopChild {
+        id: Expr,
+    },
     /// `enqueueActions`: the items that are walked.
-    EnqueueActions { items: ActionItems },
+    EnqueueActions {
+        items: ActionItems,
+    },
 }
 
 /// An item of `enqueueActions`.

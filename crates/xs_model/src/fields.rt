@@ -1,6 +1,8 @@
-ghost use Rattle.std.specs.Prelude.{◌≡◌, [], ◌==◌, length};
+ghost use Rattle.std.specs.Prelude.{◌≡◌, [], ◌==◌, length, IfOk, IfErr, OnOk, OnErr, option_copied};
+ghost use Rattle.xs_model.specs.Rising.{KeysRise, HoldsKeyAt, HasGapAt, key_cmp};
 
 use std::alloc::Global;
+use std::cmp::Ordering;
 use std::marker::Model;
 use xs_data::Text;
 
@@ -25,7 +27,7 @@ impl<T> Model for Entries<T> {
 }
 
 impl<T> Entries<T> {
-    ghost use Rattle.xs_model.specs.Rising.{KeysRise};
+    ghost use Rattle.xs_model.specs.Rising.{get};
 
     /// The empty list. It takes no memory.
     pub fn new(alloc: Global) -> Entries<T>
@@ -57,4 +59,54 @@ impl<T> Entries<T> {
     {
         self.pairs.as_slice()
     }
+
+    /// Takes over pairs whose keys rise.
+    pub(crate) fn from_sorted(pairs: Vec<(Text, T)>) -> Entries<T>
+        requires { KeysRise pairs.items }
+        ensures { result ≡ pairs.items }
+    {
+        Entries { pairs }
+    }
+
+    /// What is held under a key, found by halves.
+    pub fn get(&self, key: &[u8]) -> Option<&T>
+        ensures { option_copied result ≡ get key.now self.now }
+    {
+        match search(self.pairs.as_slice(), key) {
+            Ok(place) => Some(&self.pairs[place].1),
+            Err(_) => None,
+        }
+    }
+}
+
+impl<T: Drop> Entries<T> {
+    ghost use Rattle.xs_model.specs.Rising.{put};
+
+    /// Puts a value under a key, in place of what was held there. The place is found by halves, and
+    /// a new pair moves those after it. For want of memory it hands the pair back.
+    pub fn put(&mut self, key: Text, value: T) -> Result<(), (Text, T)>
+        ensures ok { OnOk result (self.new ≡ put self.old key value) }
+        ensures err { OnErr result (self.new ≡ self.old) }
+        ensures handed_back { IfErr result (λ back. back ≡ (key, value)) }
+    {
+        match search(self.pairs.as_slice(), key.as_bytes()) {
+            Ok(place) => {
+                self.pairs[place] = (key, value);
+                Ok(())
+            }
+            Err(place) => match self.pairs.insert(place, (key, value)) {
+                Ok(()) => Ok(()),
+                Err(refused) => Err(refused.value),
+            },
+        }
+    }
+}
+
+// Where the pair with the key is, or where it would go.
+fn search<T>(pairs: &[(Text, T)], key: &[u8]) -> Result<usize, usize>
+    requires { KeysRise pairs.now }
+    ensures found { IfOk result (λ place. HoldsKeyAt key.now place pairs.now) }
+    ensures absent { IfErr result (λ place. HasGapAt key.now place pairs.now) }
+{
+    pairs.binary_search_by(|pair| pair.0.as_bytes().cmp(key))
 }
