@@ -1,6 +1,7 @@
-//! Laws of the abstract office, over all runs. Their proofs are of the definitions by which the contracts of `Core` speak.
+//! Laws of the definitions by which the contracts speak: of the abstract office, over all runs, and of the line of a request.
 
 ghost use Rattle.office_core.specs.Laws.{ActorsFollowTheirLetters, CallersAreServedInOrder};
+ghost use Rattle.office_core.specs.RequestLine.{RequestIsUnique};
 
 /// The state of each actor is a fold of its letters, in the order of their numbers, over its machine: no letter that it
 /// was sent is lost, taken twice or taken before one that was sent earlier.
@@ -12,3 +13,10 @@ pub fn actors_follow_their_letters()
 pub fn callers_are_served_in_order()
     ensures { CallersAreServedInOrder }
 {}
+
+/// A line is the line of one request at most.
+pub fn request_is_unique()
+    ensures { RequestIsUnique }
+{
+    ordered_json::laws::meaning_is_unique();
+}
