@@ -1,8 +1,10 @@
--- The laws of the abstract office, over all runs from the empty office.
+-- The laws of the abstract office.
 use Rattle.std.specs.Prelude.{◌≡◌, ℕ, ◌+◌, ◌≤◌, List, [], ◌∷◌, ◌++◌, filter, fold, nat_eq, Option, None, Some, IfSome, slice_get}
 use Rattle.std.specs.List.{list_any}
 use Rattle.office_core.specs.declared.flat.FlatMachine.{FlatMachine}
-use Rattle.office_core.specs.Office.{Letter, Actor, empty_office, actor_of, next_state}
+use Rattle.office_core.specs.declared.office.Claim.{Claim}
+use Rattle.office_core.specs.Office.{Letter, Actor, Office, empty_office, actor_of, next_state, first_ready}
+use Rattle.office_core.specs.Plan.{head_at}
 use Rattle.office_core.specs.Runs.{Entry, after, along, mailbox, sent_to, sent_from, taken_by}
 
 -- the numbers rise, from `least` on
@@ -49,3 +51,12 @@ abbrev pub CallersAreServedInOrder : Type 0
 CallersAreServedInOrder =
     (machines : List FlatMachine) (entries : List Entry) (caller : List ℕ) (number : ℕ) →
     TakenAsSent machines entries number (along machines (sent_from machines caller number) empty_office entries)
+
+-- the claim is that of an actor's head letter, and no head letter has a lesser number; without a claim no letter waits
+abbrev pub IsLeastHead : Office → Option Claim → Type 0
+IsLeastHead office None = (number : ℕ) → head_at office number ≡ None
+IsLeastHead office (Some claim) = (head_at office claim.actor ≡ Some claim.letter) × ((number letter : ℕ) → head_at office number ≡ Some letter → claim.letter ≤ letter)
+
+-- the next actor has the least head letter of all
+abbrev pub NextActorHasLeastLetter : Type 0
+NextActorHasLeastLetter = (office : Office) → IsLeastHead office (first_ready office)

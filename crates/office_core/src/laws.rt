@@ -1,7 +1,6 @@
-//! Laws of the definitions by which the contracts speak: of the abstract office, over all runs, and of the line of a request.
+//! Laws of the abstract office. They are about the definitions by which the contracts of `Core` speak.
 
-ghost use Rattle.office_core.specs.Laws.{ActorsFollowTheirLetters, CallersAreServedInOrder};
-ghost use Rattle.office_core.specs.RequestLine.{RequestIsUnique};
+ghost use Rattle.office_core.specs.Laws.{ActorsFollowTheirLetters, CallersAreServedInOrder, NextActorHasLeastLetter};
 
 /// The state of each actor is a fold of its letters, in the order of their numbers, over its machine: no letter that it
 /// was sent is lost, taken twice or taken before one that was sent earlier.
@@ -14,9 +13,7 @@ pub fn callers_are_served_in_order()
     ensures { CallersAreServedInOrder }
 {}
 
-/// A line is the line of one request at most.
-pub fn request_is_unique()
-    ensures { RequestIsUnique }
-{
-    ordered_json::laws::meaning_is_unique();
-}
+/// The next actor has the least head letter of all, and there is no next actor only where no letter waits.
+pub fn next_actor_has_least_letter()
+    ensures { NextActorHasLeastLetter }
+{}

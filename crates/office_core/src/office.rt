@@ -304,9 +304,10 @@ impl Core {
         ensures machines { self.new.machines ≡ self.old.machines }
         ensures office { self.new.office ≡ with_new self.old.office machine }
     {
+        let number = self.next_letter;
         let actor = self.seats.len() as u64 + 1;
         let letter = Waiting {
-            number: self.next_letter,
+            number,
             actor,
             event: Event::Init,
         };
@@ -317,7 +318,7 @@ impl Core {
             })
             .unwrap();
         self.waiting.push_back(letter).unwrap();
-        self.next_letter += 1;
+        self.next_letter = number + 1;
     }
 
     fn post(&mut self, actor: u64, event: Text)
