@@ -1,17 +1,14 @@
 -- The reader goes over what the grammar prints.
-use Rattle.std.proofs.Common.{◌≡◌, [], ◌∷◌, ◌++◌, ℕ, ◌+◌, Bool, true, false, cond, List, length, Option, Some, None, Result, Ok, Err, refl, ap, sym, ◌∙◌, arith}
-use Rattle.std.specs.Bool.{⊤}
+use Rattle.std.proofs.Common.{◌≡◌, [], ◌∷◌, ◌++◌, ℕ, ◌+◌, Bool, true, false, List, length, Option, Result, Ok, refl, ◌∙◌, arith}
 use Rattle.ordered_json.specs.declared.fault.JsonFault.{JsonFault}
 use Rattle.ordered_json.specs.declared.json.OrderedJson.{OrderedJson, Null, Bool as a_bool}
 use Rattle.ordered_json.specs.declared.level.Level.{Level}
-use Rattle.ordered_json.specs.declared.level.Level.TheVariants as level
 use Rattle.ordered_json.specs.declared.mode.Mode.{Mode}
 use Rattle.ordered_json.specs.declared.mode.Mode.TheVariants as mode
-use Rattle.ordered_json.specs.declared.reader.Reader.{Reader}
-use Rattle.ordered_json.specs.Grammar.{is_blank, IsSpace}
-use Rattle.ordered_json.specs.Steps.{Outcome, complete, between, begin_value, step, in_word, settle, answer_from, and_then, finish}
+use Rattle.ordered_json.specs.Grammar.{IsSpace}
+use Rattle.ordered_json.specs.Steps.{between, begin_value, step, in_word}
 use Rattle.ordered_json.specs.declared.mode.Word.TheVariants as word
-use Rattle.ordered_json.proofs.Runs.{Answers, by_step, by_same, by_place, by_bytes, by_fault}
+use Rattle.ordered_json.proofs.Runs.{Answers, by_step, by_place}
 use Rattle.ordered_json.proofs.States.{state, Ready, finished, complete_ready, awaiting, blank_step}
 
 abbrev pub Answer : Type 0

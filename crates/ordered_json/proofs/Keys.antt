@@ -5,7 +5,7 @@ use Rattle.std.proofs.lemmas.List.{map-append}
 use Rattle.std.proofs.lemmas.List.Folds.{list_any-append}
 use Rattle.std.proofs.lemmas.Slice.Eq.{bytes_eq-Decides}
 use Rattle.std.proofs.lemmas.Bool.Decides.{same_from_decides, Decides-like}
-use Rattle.ordered_json.specs.declared.json.Member.{Member, roll-Member, out-roll-Member}
+use Rattle.ordered_json.specs.declared.json.Member.{Member, out-roll-Member}
 use Rattle.ordered_json.specs.declared.json.OrderedJson.{OrderedJson}
 use Rattle.ordered_json.specs.Words.{key_of, member_of}
 use Rattle.ordered_json.specs.Meaning.{has_key}

@@ -1,8 +1,6 @@
 -- The reader goes over numbers.
-use Rattle.std.proofs.Common.{◌≡◌, [], ◌∷◌, ◌++◌, ℕ, ◌+◌, ◌-◌, ◌*◌, ◌^◌, ◌≤◌, ◌<◌, min, Bool, true, false, cond, ◌||◌, ◌&&◌, ◌==◌, ◌⊎◌, inl, inr, List, length, Option, Some, None, Result, Ok, Err, refl, ap, sym, ◌∙◌, arith, fold, subst}
-use Rattle.std.specs.Bool.{⊤}
+use Rattle.std.proofs.Common.{◌≡◌, [], ◌∷◌, ◌++◌, ℕ, ◌+◌, ◌-◌, ◌*◌, ◌^◌, min, Bool, true, false, ◌||◌, ◌==◌, inl, inr, List, length, Option, Ok, Err, refl, ap, sym, ◌∙◌, arith, fold, subst}
 use Rattle.std.proofs.lemmas.Bool.Decides.{nat_tests}
-use Rattle.ordered_json.specs.declared.fault.JsonFault.{JsonFault}
 use Rattle.ordered_json.specs.declared.fault.JsonFault.TheVariants.{Fraction, Range}
 use Rattle.ordered_json.specs.declared.json.OrderedJson.{OrderedJson, Int}
 use Rattle.ordered_json.specs.declared.level.Level.{Level}
@@ -11,8 +9,8 @@ use Rattle.ordered_json.specs.declared.mode.Mode.TheVariants as mode
 use Rattle.ordered_json.specs.Grammar.{is_decimal, AreDigits, IsWhole, signed}
 use Rattle.ordered_json.specs.Meaning.{magnitude, int_value, fits}
 use Rattle.ordered_json.specs.Faults.{is_mark, EndsNumber}
-use Rattle.ordered_json.specs.Steps.{Outcome, complete, between, begin_value, step, settle, end_number, after_digits, in_digits, after_minus, answer_from, answer_of, and_then, finish}
-use Rattle.ordered_json.proofs.Runs.{Answers, by_step, by_same, by_place, by_bytes, by_fault, answer_from-err}
+use Rattle.ordered_json.specs.Steps.{between, begin_value, step, settle, end_number, after_digits, in_digits, after_minus, answer_from, answer_of, and_then}
+use Rattle.ordered_json.proofs.Runs.{Answers, by_step, by_place, by_fault}
 use Rattle.ordered_json.proofs.States.{state, Ready, finished, complete_ready, awaiting}
 use Rattle.ordered_json.proofs.Accept.{Answer}
 
@@ -23,7 +21,7 @@ sat n = min n (2 ^ 64 - 1)
 abbrev pub grow : ℕ → ℕ → ℕ
 grow n b = n * 10 + (b - 48)
 
-sat-grow : (n d : ℕ) → min (min (sat n * 10) (2 ^ 64 - 1) + d) (2 ^ 64 - 1) ≡ sat (n * 10 + d)
+pub sat-grow : (n d : ℕ) → min (min (sat n * 10) (2 ^ 64 - 1) + d) (2 ^ 64 - 1) ≡ sat (n * 10 + d)
 sat-grow n d = omega arith
 
 fits-sat : (minus : Bool) (n : ℕ) → fits minus (sat n) ≡ fits minus n
@@ -39,16 +37,16 @@ pub record IsNumberMode (m : Mode) (first : ℕ) (minus : Bool) (n : ℕ) : Type
   pub at_end : (place : ℕ) (ls : List Level) (o : Option OrderedJson) → settle place (state m ls o) ≡ end_number place first minus (sat n) (state m ls o)
   pub at_byte : (place b : ℕ) (ls : List Level) (o : Option OrderedJson) → is_decimal b ≡ false → step place b (state m ls o) ≡ after_digits place first minus (sat n) b (state m ls o)
 
-zero_mode : (first : ℕ) (minus : Bool) → IsNumberMode (mode.Zero first minus) first minus 0
+pub zero_mode : (first : ℕ) (minus : Bool) → IsNumberMode (mode.Zero first minus) first minus 0
 unfolding settle step
 zero_mode first minus = record { at_end = λ place ls o. refl; at_byte = λ place b ls o h. refl }
 
-digits_mode : (first : ℕ) (minus : Bool) (n : ℕ) → IsNumberMode (mode.Digits first minus (sat n)) first minus n
+pub digits_mode : (first : ℕ) (minus : Bool) (n : ℕ) → IsNumberMode (mode.Digits first minus (sat n)) first minus n
 unfolding settle step in_digits
 digits_mode first minus n = record { at_end = λ place ls o. refl; at_byte = λ place b ls o h. rw h refl }
 
 -- one digit more
-digit_step : (place first b : ℕ) (minus : Bool) (n : ℕ) (ls : List Level) (o : Option OrderedJson) → is_decimal b ≡ true → step place b (state (mode.Digits first minus (sat n)) ls o) ≡ Ok (state (mode.Digits first minus (sat (grow n b))) ls o)
+pub digit_step : (place first b : ℕ) (minus : Bool) (n : ℕ) (ls : List Level) (o : Option OrderedJson) → is_decimal b ≡ true → step place b (state (mode.Digits first minus (sat n)) ls o) ≡ Ok (state (mode.Digits first minus (sat (grow n b))) ls o)
 unfolding step in_digits
 digit_step place first b minus n ls o h = rw h (ap (λ k. Ok (state (mode.Digits first minus k) ls o)) (sat-grow n (b - 48)))
 
@@ -56,7 +54,7 @@ digits_read : (ds : List ℕ) (n : ℕ) {p first : ℕ} {minus : Bool} {rest : L
 digits_read [] n {p = p} h a = by_place {q = p + 0} (omega arith) a
 digits_read (b ∷ ds) n {p} {first} {minus} {ls = ls} {o = o} h a = by_step (digit_step p first b minus n ls o h.0) (digits_read ds (grow n b) h.1 (by_place {q = p + length (b ∷ ds)} (omega arith) a))
 
-small_digit : (b : ℕ) → is_decimal b ≡ true → sat (grow 0 b) ≡ b - 48
+pub small_digit : (b : ℕ) → is_decimal b ≡ true → sat (grow 0 b) ≡ b - 48
 small_digit b h = grind (arith, nat_tests)
 
 no_digit : (b c : ℕ) → is_decimal b ≡ true → is_decimal c ≡ false → b == c ≡ false
@@ -114,15 +112,15 @@ number_read f false (b ∷ bs) {p} {ls = ls} {o = o} (inr e) k =
     (digits_read bs (grow 0 b) e.1.1 (by_place {q = p + length (b ∷ bs)} (omega arith) (k (mode.Digits p false (sat (fold grow (grow 0 b) bs))) (digits_mode p false (fold grow (grow 0 b) bs)))))
 
 -- the end of a number that fits
-number_taken : (place first : ℕ) (minus : Bool) (n : ℕ) (m : Mode) (ls : List Level) (o : Option OrderedJson) → Ready ls → fits minus n ≡ true → end_number place first minus (sat n) (state m ls o) ≡ Ok (finished (Int first (int_value minus n)) ls o)
+pub number_taken : (place first : ℕ) (minus : Bool) (n : ℕ) (m : Mode) (ls : List Level) (o : Option OrderedJson) → Ready ls → fits minus n ≡ true → end_number place first minus (sat n) (state m ls o) ≡ Ok (finished (Int first (int_value minus n)) ls o)
 unfolding end_number
 number_taken place first minus n m ls o r h = rw (sat-fits minus n h) (rw h (complete_ready place (Int first (int_value minus n)) m ls o r))
 
-number_refused : (place first : ℕ) (minus : Bool) (n : ℕ) (m : Mode) (ls : List Level) (o : Option OrderedJson) → fits minus n ≡ false → end_number place first minus (sat n) (state m ls o) ≡ Err (Range first)
+pub number_refused : (place first : ℕ) (minus : Bool) (n : ℕ) (m : Mode) (ls : List Level) (o : Option OrderedJson) → fits minus n ≡ false → end_number place first minus (sat n) (state m ls o) ≡ Err (Range first)
 unfolding end_number
 number_refused place first minus n m ls o h = rw (fits-sat minus n) (rw h refl)
 
-or_false : (x y : Bool) → (x || y) ≡ false → (x ≡ false) × (y ≡ false)
+pub or_false : (x y : Bool) → (x || y) ≡ false → (x ≡ false) × (y ≡ false)
 or_false true y e = cc
 or_false false true e = cc
 or_false false false e = (refl, refl)

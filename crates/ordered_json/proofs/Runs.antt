@@ -1,9 +1,9 @@
 -- A run of the reader over the bytes of a text.
-use Rattle.std.proofs.Common.{◌≡◌, [], ◌∷◌, ◌++◌, ℕ, suc, ◌+◌, ◌<◌, List, length, get_or, drop, drop-cons, Result, Ok, Err, refl, ap, sym, ◌∙◌}
+use Rattle.std.proofs.Common.{◌≡◌, [], ◌∷◌, ℕ, suc, ◌+◌, ◌<◌, List, length, get_or, drop, drop-cons, Result, Ok, Err, refl, ap, sym, ◌∙◌}
 use Rattle.ordered_json.specs.declared.fault.JsonFault.{JsonFault}
 use Rattle.ordered_json.specs.declared.json.OrderedJson.{OrderedJson}
 use Rattle.ordered_json.specs.declared.reader.Reader.{Reader}
-use Rattle.ordered_json.specs.Steps.{Outcome, answer_from, finish, and_then, step, start}
+use Rattle.ordered_json.specs.Steps.{Outcome, answer_from, step}
 
 -- a fault ends the run
 pub answer_from-err : (place : ℕ) (bytes : List ℕ) (fault : JsonFault) → answer_from place bytes (Err fault) ≡ Err fault

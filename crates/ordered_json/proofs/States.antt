@@ -1,7 +1,6 @@
 -- The states in which the reader stands between tokens.
-use Rattle.std.proofs.Common.{◌≡◌, [], ◌∷◌, ◌++◌, ℕ, ◌+◌, Bool, true, false, cond, List, Option, Some, None, Result, Ok, Err, refl, ap, sym, ◌∙◌}
+use Rattle.std.proofs.Common.{◌≡◌, [], ◌∷◌, ◌++◌, ℕ, Bool, true, false, List, Option, Some, Ok, refl}
 use Rattle.std.specs.Bool.{⊤}
-use Rattle.ordered_json.specs.declared.fault.JsonFault.{JsonFault}
 use Rattle.ordered_json.specs.declared.json.OrderedJson.{OrderedJson}
 use Rattle.ordered_json.specs.declared.level.Level.{Level}
 use Rattle.ordered_json.specs.declared.level.Level.TheVariants as level
@@ -10,7 +9,7 @@ use Rattle.ordered_json.specs.declared.mode.Mode.TheVariants as mode
 use Rattle.ordered_json.specs.declared.reader.Reader.{Reader}
 use Rattle.ordered_json.specs.Words.{member_of}
 use Rattle.ordered_json.specs.Grammar.{is_blank}
-use Rattle.ordered_json.specs.Steps.{Outcome, complete, between, begin_value, step, settle, answer_from, and_then}
+use Rattle.ordered_json.specs.Steps.{complete, between}
 
 -- no string is being read
 abbrev pub state : Mode → List Level → Option OrderedJson → Reader

@@ -1,23 +1,20 @@
 -- The reader goes over the characters of a string.
-use Rattle.std.proofs.Common.{◌≡◌, [], ◌∷◌, ◌++◌, ℕ, ◌+◌, ◌-◌, ◌*◌, ◌/◌, ◌%◌, ◌≤◌, ◌<◌, Bool, true, false, cond, ◌||◌, ◌&&◌, ◌==◌, ◌⊎◌, inl, inr, List, length, Option, Some, None, Result, Ok, Err, refl, ap, sym, ◌∙◌, arith, subst, append_assoc, append-nil, length-append}
-use Rattle.std.specs.Bool.{⊤}
+use Rattle.std.proofs.Common.{◌≡◌, [], ◌∷◌, ◌++◌, ℕ, ◌+◌, ◌*◌, ◌/◌, ◌%◌, ◌≤◌, ◌<◌, Bool, true, false, ◌&&◌, ◌==◌, ◌⊎◌, List, length, Option, Ok, refl, ap, sym, arith, subst, append_assoc, append-nil, length-append}
 use Rattle.std.specs.Prelude.{encode_utf8, nat_le, nat_lt, not}
 use Rattle.std.specs.Char.{digit_value, is_digit, IsScalar}
 use Rattle.std.proofs.lemmas.Bool.Decides.{nat_tests}
-use lib.Utf8.{scalar, encode, scalar_cases}
+use lib.Utf8.{encode, scalar_cases}
 use Rattle.ordered_json.specs.declared.json.OrderedJson.{OrderedJson}
 use Rattle.ordered_json.specs.declared.level.Level.{Level}
-use Rattle.ordered_json.specs.declared.mode.Mode.{Mode}
 use Rattle.ordered_json.specs.declared.mode.Mode.TheVariants as mode
-use Rattle.ordered_json.specs.declared.mode.Spelled.{Spelled}
 use Rattle.ordered_json.specs.declared.mode.Spelled.TheVariants as spelled
 use Rattle.ordered_json.specs.declared.mode.Spelling.{Spelling}
 use Rattle.ordered_json.specs.declared.mode.Spelling.TheVariants as at
 use Rattle.ordered_json.specs.declared.reader.Reader.{Reader}
 use Rattle.ordered_json.specs.Grammar.{Char, plain, escaped, coded, paired, CodeUnit, are_hex, unit_value, is_high_surrogate, is_low_surrogate, escape_value, IsChar, AreChars, print_char, print_chars, print_unit}
 use Rattle.ordered_json.specs.Meaning.{char_value, content, pair_value}
-use Rattle.ordered_json.specs.Steps.{Outcome, step, in_text, spell, is_no_low, char_of, two_bytes, three_bytes, four_bytes, is_second, is_tail, is_lead, hex_unit}
-use Rattle.ordered_json.proofs.Runs.{Answers, by_step, by_same, by_place, by_bytes, by_fault}
+use Rattle.ordered_json.specs.Steps.{step, in_text, spell, char_of, two_bytes, three_bytes, four_bytes, is_second, is_tail, is_lead, hex_unit}
+use Rattle.ordered_json.proofs.Runs.{Answers, by_step, by_same, by_place, by_bytes}
 use Rattle.ordered_json.proofs.Accept.{Answer}
 
 -- a string is being read
@@ -47,7 +44,7 @@ plain_one c low q s h =
     let above : nat_lt c 32 ≡ false = grind (arith, nat_tests) in
     rw (q, s, above, h) refl
 
-lead_step : (a : ℕ) → is_lead a ≡ true → spell at.Between a ≡ spelled.More (at.Lead1 a)
+pub lead_step : (a : ℕ) → is_lead a ≡ true → spell at.Between a ≡ spelled.More (at.Lead1 a)
 lead_step a h =
     let q : a == 34 ≡ false = grind (arith, nat_tests) in
     let s : a == 92 ≡ false = grind (arith, nat_tests) in
@@ -55,7 +52,7 @@ lead_step a h =
     let over : nat_lt a 128 ≡ false = grind (arith, nat_tests) in
     rw (q, s, above, over, h) refl
 
-scalar_char : (c d : ℕ) → IsScalar c → d ≡ c → char_of d ≡ spelled.Char c
+pub scalar_char : (c d : ℕ) → IsScalar c → d ≡ c → char_of d ≡ spelled.Char c
 scalar_char c d h e = rw e (rw h refl)
 
 -- ---- code units, over the values of their digits
@@ -65,29 +62,29 @@ no_low a b c d ha hb hc hd h = grind (arith, nat_tests)
 not_both : (n : ℕ) → is_high_surrogate n ≡ true → is_low_surrogate n ≡ false
 not_both n h = grind (arith, nat_tests)
 
-unit_scalar : (a b c d : ℕ) → a < 16 → b < 16 → c < 16 → d < 16 → is_high_surrogate (((a * 16 + b) * 16 + c) * 16 + d) ≡ false → is_low_surrogate (((a * 16 + b) * 16 + c) * 16 + d) ≡ false → IsScalar (((a * 16 + b) * 16 + c) * 16 + d)
+pub unit_scalar : (a b c d : ℕ) → a < 16 → b < 16 → c < 16 → d < 16 → is_high_surrogate (((a * 16 + b) * 16 + c) * 16 + d) ≡ false → is_low_surrogate (((a * 16 + b) * 16 + c) * 16 + d) ≡ false → IsScalar (((a * 16 + b) * 16 + c) * 16 + d)
 unit_scalar a b c d ha hb hc hd h l = grind (arith, nat_tests)
 
 low_digits : (a b c d : ℕ) → a < 16 → b < 16 → c < 16 → d < 16 → is_low_surrogate (((a * 16 + b) * 16 + c) * 16 + d) ≡ true → (a == 13 ≡ true) × (nat_le 12 b ≡ true)
 low_digits a b c d ha hb hc hd h = (grind (arith, nat_tests), grind (arith, nat_tests))
 
-pair_scalar : (h l : ℕ) → is_high_surrogate h ≡ true → is_low_surrogate l ≡ true → IsScalar (pair_value h l)
+pub pair_scalar : (h l : ℕ) → is_high_surrogate h ≡ true → is_low_surrogate l ≡ true → IsScalar (pair_value h l)
 pair_scalar h l hh hl = grind (arith, nat_tests)
 
 -- ---- UTF-8
-encode_one : (c : ℕ) → nat_lt c 128 ≡ true → encode_utf8 c ≡ c ∷ []
+pub encode_one : (c : ℕ) → nat_lt c 128 ≡ true → encode_utf8 c ≡ c ∷ []
 unfolding encode
 encode_one c h = rw h refl
 
-encode_two : (c : ℕ) → nat_lt c 128 ≡ false → nat_lt c 2048 ≡ true → encode_utf8 c ≡ (192 + c / 64) ∷ (128 + c % 64) ∷ []
+pub encode_two : (c : ℕ) → nat_lt c 128 ≡ false → nat_lt c 2048 ≡ true → encode_utf8 c ≡ (192 + c / 64) ∷ (128 + c % 64) ∷ []
 unfolding encode
 encode_two c h i = rw (h, i) refl
 
-encode_three : (c : ℕ) → nat_lt c 128 ≡ false → nat_lt c 2048 ≡ false → nat_lt c 65536 ≡ true → encode_utf8 c ≡ (224 + c / 4096) ∷ (128 + c / 64 % 64) ∷ (128 + c % 64) ∷ []
+pub encode_three : (c : ℕ) → nat_lt c 128 ≡ false → nat_lt c 2048 ≡ false → nat_lt c 65536 ≡ true → encode_utf8 c ≡ (224 + c / 4096) ∷ (128 + c / 64 % 64) ∷ (128 + c % 64) ∷ []
 unfolding encode
 encode_three c h i j = rw (h, i, j) refl
 
-encode_four : (c : ℕ) → nat_lt c 128 ≡ false → nat_lt c 2048 ≡ false → nat_lt c 65536 ≡ false → encode_utf8 c ≡ (240 + c / 262144) ∷ (128 + c / 4096 % 64) ∷ (128 + c / 64 % 64) ∷ (128 + c % 64) ∷ []
+pub encode_four : (c : ℕ) → nat_lt c 128 ≡ false → nat_lt c 2048 ≡ false → nat_lt c 65536 ≡ false → encode_utf8 c ≡ (240 + c / 262144) ∷ (128 + c / 4096 % 64) ∷ (128 + c / 64 % 64) ∷ (128 + c % 64) ∷ []
 unfolding encode
 encode_four c h i j = rw (h, i, j) refl
 
@@ -130,19 +127,19 @@ tail_true n = tail_in (128 + n % 64) (omega arith) (omega arith)
     tail_in : (b : ℕ) → 128 ≤ b → b < 192 → is_tail b ≡ true
     tail_in b l h = grind (arith, nat_tests)
 
-is_below : (a b : ℕ) → a < b → nat_lt a b ≡ true
+pub is_below : (a b : ℕ) → a < b → nat_lt a b ≡ true
 is_below a b h = grind (arith, nat_tests)
 
-is_above : (a b : ℕ) → b ≤ a → nat_lt a b ≡ false
+pub is_above : (a b : ℕ) → b ≤ a → nat_lt a b ≡ false
 is_above a b h = grind (arith, nat_tests)
 
-below : (a b : ℕ) → nat_lt a b ≡ true → a < b
+pub below : (a b : ℕ) → nat_lt a b ≡ true → a < b
 below a b h = grind (arith, nat_tests)
 
-above : (a b : ℕ) → nat_lt a b ≡ false → b ≤ a
+pub above : (a b : ℕ) → nat_lt a b ≡ false → b ≤ a
 above a b h = grind (arith, nat_tests)
 
-is_lead_between : (a : ℕ) → 194 ≤ a → a < 245 → is_lead a ≡ true
+pub is_lead_between : (a : ℕ) → 194 ≤ a → a < 245 → is_lead a ≡ true
 is_lead_between a l h = grind (arith, nat_tests)
 
 spell_two : (c : ℕ) → IsScalar c → 128 ≤ c → c < 2048 → Spells at.Between ((192 + c / 64) ∷ (128 + c % 64) ∷ []) c
@@ -197,12 +194,12 @@ no_u b h = by (b == 117) refl
 escaped_spells : (b : ℕ) → IsChar (escaped b) → Spells at.Between (92 ∷ b ∷ []) (escape_value b)
 escaped_spells b h = then at.Backslash refl (last (rw (no_u b h, h) refl))
 
-and_true : (x y : Bool) → (x && y) ≡ true → (x ≡ true) × (y ≡ true)
+pub and_true : (x y : Bool) → (x && y) ≡ true → (x ≡ true) × (y ≡ true)
 and_true true y e = (refl, e)
 and_true false y e = cc
 
 -- a digit's value is below 16
-digit_below : (b : ℕ) → is_digit b 16 ≡ true → digit_value b < 16
+pub digit_below : (b : ℕ) → is_digit b 16 ≡ true → digit_value b < 16
 digit_below b h = below (digit_value b) 16 h
 
 -- the four digits

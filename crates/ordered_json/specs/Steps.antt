@@ -1,10 +1,10 @@
 -- How the reader goes on at each byte. Private contracts alone cite these definitions; what a text
 -- means and which fault it has is said by the grammar.
-use Rattle.std.specs.Prelude.{◌≡◌, ℕ, ◌+◌, ◌*◌, ◌-◌, ◌%◌, ◌^◌, min, Bool, true, false, cond, not, ◌&&◌, ◌||◌, ◌==◌, nat_le, nat_lt, List, [], ◌∷◌, ◌++◌, length, map, Option, Some, None, Result, Ok, Err, encode_utf8, slice_index, ℤ}
+use Rattle.std.specs.Prelude.{ℕ, ◌+◌, ◌*◌, ◌-◌, ◌%◌, ◌^◌, min, Bool, true, false, cond, not, ◌&&◌, ◌==◌, nat_le, nat_lt, List, [], ◌∷◌, ◌++◌, length, map, Option, Some, None, Result, Ok, Err, encode_utf8, slice_index}
 use Rattle.std.specs.Char.{is_digit, digit_value}
 use lib.Utf8.{scalar}
 use Rattle.ordered_json.specs.declared.fault.JsonFault.{JsonFault}
-use Rattle.ordered_json.specs.declared.fault.JsonFault.TheVariants.{Syntax, DoubleKey, Fraction, Range, TooDeep, TooLong}
+use Rattle.ordered_json.specs.declared.fault.JsonFault.TheVariants.{Syntax, DoubleKey, Fraction, Range, TooDeep}
 use Rattle.ordered_json.specs.declared.json.OrderedJson.{OrderedJson, Null, Bool as a_bool, Int, Text as a_text, List as a_list, Object as an_object}
 use Rattle.ordered_json.specs.declared.level.Awaits.{Awaits}
 use Rattle.ordered_json.specs.declared.level.Awaits.TheVariants as awaits
@@ -22,7 +22,7 @@ use Rattle.ordered_json.specs.declared.mode.Word.TheVariants as word
 use Rattle.ordered_json.specs.declared.reader.Reader.{Reader}
 use Rattle.ordered_json.specs.Words.{key_of, member_of}
 use Rattle.ordered_json.specs.Grammar.{is_blank, is_decimal, escape_value, is_high_surrogate, is_low_surrogate}
-use Rattle.ordered_json.specs.Meaning.{has_key, int_value, fits, max_depth, max_len, pair_value}
+use Rattle.ordered_json.specs.Meaning.{has_key, int_value, fits, max_depth, pair_value}
 use Rattle.ordered_json.specs.Faults.{is_mark}
 
 abbrev pub Outcome : Type 0

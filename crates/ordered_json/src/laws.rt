@@ -4,5 +4,4 @@ ghost use Rattle.ordered_json.specs.Laws.{MeaningIsUnique};
 /// A text has at most one meaning.
 pub fn meaning_is_unique()
     ensures { MeaningIsUnique }
-{
-}
+{}

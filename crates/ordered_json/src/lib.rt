@@ -2,6 +2,10 @@
 //! part, or says which fault comes first and where it stands.
 #![tactic(auto)]
 
+ghost use Rattle.std.specs.Prelude.{IfOk, IfErr};
+ghost use Rattle.ordered_json.specs.Faults.{HasFault};
+ghost use Rattle.ordered_json.specs.Meaning.{Means};
+
 mod byte;
 mod fault;
 mod json;
@@ -26,7 +30,10 @@ const MAX_LEN: usize = 1_048_576;
 /// most 1,048,576 bytes, whole numbers of 64 bits and 64 levels; `-0` is 0. Of several faults the first
 /// from left to right is answered. The cost is linear in the text, but for the look-up of each key among
 /// those of its object.
-pub fn read(alloc: Global, text: &[u8]) -> Result<OrderedJson, JsonFault> {
+pub fn read(alloc: Global, text: &[u8]) -> Result<OrderedJson, JsonFault>
+    ensures ok { IfOk result (λ json. Means text.now json) }
+    ensures fault { IfErr result (λ fault. HasFault text.now fault) }
+{
     if text.len() > MAX_LEN {
         return Err(JsonFault::TooLong);
     }
