@@ -5,9 +5,8 @@ use Rattle.std.proofs.lemmas.Fmt.{decimal_injective}
 use Rattle.ordered_json.specs.declared.fault.JsonFault.{JsonFault}
 use Rattle.ordered_json.specs.declared.fault.JsonFault.TheVariants as faults
 use Rattle.ordered_json.specs.declared.json.OrderedJson.{OrderedJson}
-use Rattle.ordered_json.specs.Faults.{HasFault}
-use Rattle.ordered_json.specs.Laws.{MeaningIsUnique, MeaningExcludesFault}
-use Rattle.ordered_json.specs.Meaning.{Means}
+use Rattle.ordered_json.specs.Laws.{MeaningIsUnique}
+use Rattle.ordered_json.specs.Meaning.{Means, IsMeaningless}
 use Rattle.ordered_json.specs.Words.{members_of}
 use Rattle.office_core.specs.declared.request.Ask.{Ask}
 use Rattle.office_core.specs.declared.request.Ask.TheVariants.{Start, Send}
@@ -44,15 +43,15 @@ event_is unique bytes json means event is =
     let P : OrderedJson → Type 0 = λ j. option_and_then type_in (members_of j) ≡ Some event in
     (subst P (unique bytes is.0 json is.1 means) is.2, is.3)
 
--- a text with a fault is no event's
-pub no_event : MeaningExcludesFault → (bytes : List ℕ) (fault : JsonFault) → HasFault bytes fault → Reads (IsEvent bytes) (Err (line_fault fault))
-no_event excludes bytes (faults.Syntax place) has = λ event is. excludes bytes is.0 (faults.Syntax place) (λ e. cc) is.1 has
-no_event excludes bytes (faults.DoubleKey place) has = λ event is. excludes bytes is.0 (faults.DoubleKey place) (λ e. cc) is.1 has
-no_event excludes bytes (faults.Fraction place) has = λ event is. excludes bytes is.0 (faults.Fraction place) (λ e. cc) is.1 has
-no_event excludes bytes (faults.Range place) has = λ event is. excludes bytes is.0 (faults.Range place) (λ e. cc) is.1 has
-no_event excludes bytes (faults.TooDeep place) has = λ event is. excludes bytes is.0 (faults.TooDeep place) (λ e. cc) is.1 has
-no_event excludes bytes faults.TooLong has = λ event is. excludes bytes is.0 faults.TooLong (λ e. cc) is.1 has
-no_event excludes bytes faults.Memory has = tt
+-- a text that is refused is no event's
+pub no_event : (bytes : List ℕ) (fault : JsonFault) → (fault ≢ faults.Memory → IsMeaningless bytes) → Reads (IsEvent bytes) (Err (line_fault fault))
+no_event bytes (faults.Syntax place) refused = λ event is. refused (λ e. cc) is.0 is.1
+no_event bytes (faults.DoubleKey place) refused = λ event is. refused (λ e. cc) is.0 is.1
+no_event bytes (faults.Fraction place) refused = λ event is. refused (λ e. cc) is.0 is.1
+no_event bytes (faults.Range place) refused = λ event is. refused (λ e. cc) is.0 is.1
+no_event bytes (faults.TooDeep place) refused = λ event is. refused (λ e. cc) is.0 is.1
+no_event bytes faults.TooLong refused = λ event is. refused (λ e. cc) is.0 is.1
+no_event bytes faults.Memory refused = tt
 
 -- a start is cut behind the machine's id
 pub start_cut : (bytes machine : List ℕ) → IsStart bytes machine → IsCut bytes machine (codes "- null")

@@ -202,3 +202,6 @@ fn has_id(machines: &[FlatMachine], id: &[u8]) -> bool
 {
     machines.iter().any(|machine| id == machine.id.as_bytes())
 }
+
+#[cfg(test)]
+mod tests;

@@ -1,10 +1,11 @@
 ghost use Rattle.std.specs.Prelude.{◌≡◌, ◌≤◌, ◌↔◌, ◌==◌, ◌||◌, All, position, MatchResult, IsTrue, option_and_then};
 ghost use Rattle.std.specs.Option.{option_copied};
 ghost use Rattle.std.specs.List.{list_all};
-ghost use Rattle.ordered_json.specs.Words.{text_of, members_of};
+ghost use Rattle.ordered_json.specs.Words.{members_of};
 ghost use Rattle.office_core.specs.LineParts.{IsCut, begins_number, is_spaceless, IsNumber, IsNameText, IsCallerText, IsStart, IsSend};
 ghost use Rattle.office_core.specs.RequestLine.{Reads, IsAsk, IsEvent, IsRequest, is_caller, is_sendable, is_caller_byte, type_in};
 
+use crate::json_words::text_of;
 use crate::request::{Ask, Request};
 use ordered_json::{JsonFault, OrderedJson};
 use std::alloc::{AllocError, Global};
@@ -126,7 +127,15 @@ fn read_send(alloc: Global, bytes: &[u8]) -> Result<(u64, Text), LineFault>
 fn read_event(alloc: Global, bytes: &[u8]) -> Result<Text, LineFault>
     ensures { Reads (IsEvent bytes.now) result }
 {
-    Err(LineFault::Memory)
+    ordered_json::laws::meaning_is_unique();
+    let json = ordered_json::read(alloc, bytes)?;
+    let Some(kind) = type_of(&json) else {
+        return Err(LineFault::NotALine);
+    };
+    if !is_sendable(kind.as_bytes()) {
+        return Err(LineFault::NotALine);
+    }
+    Ok(kind.copy(alloc)?)
 }
 
 // The text of an object whose one member is `type`, a text.
@@ -143,16 +152,6 @@ fn type_of(json: &OrderedJson) -> Option<&Text>
         return None;
     }
     text_of(&member.value)
-}
-
-// The text, if the value is one.
-fn text_of(json: &OrderedJson) -> Option<&Text>
-    ensures { option_copied result ≡ text_of json.now }
-{
-    match json {
-        OrderedJson::Text { text, .. } => Some(text),
-        _ => None,
-    }
 }
 
 // Whether an event of this type may be sent: it isn't too long, and its type isn't one of the machines' own.
@@ -258,3 +257,6 @@ fn first_space(bytes: &[u8]) -> Option<usize>
 {
     bytes.iter().position(|byte| *byte == b' ')
 }
+
+#[cfg(test)]
+mod tests;
