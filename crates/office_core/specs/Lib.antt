@@ -1,7 +1,10 @@
 pub mod Flat
-pub mod Office
-pub mod View
-pub mod Plan
-pub mod Shown
-pub mod Runs
+pub mod FlatText
 pub mod Laws
+pub mod LineParts
+pub mod Office
+pub mod Plan
+pub mod RequestLine
+pub mod Runs
+pub mod Shown
+pub mod View

@@ -1,6 +1,7 @@
-//! Laws of the abstract office. They are about the definitions by which the contracts of `Core` speak.
+//! Laws of the abstract office and of the line of a request. They are about the definitions by which the contracts speak.
 
 ghost use Rattle.office_core.specs.Laws.{ActorsFollowTheirLetters, CallersAreServedInOrder, NextActorHasLeastLetter};
+ghost use Rattle.office_core.specs.RequestLine.{RequestIsUnique};
 
 /// The state of each actor is a fold of its letters, in the order of their numbers, over its machine: no letter that it
 /// was sent is lost, taken twice or taken before one that was sent earlier.
@@ -17,3 +18,10 @@ pub fn callers_are_served_in_order()
 pub fn next_actor_has_least_letter()
     ensures { NextActorHasLeastLetter }
 {}
+
+/// A line is the line of one request at most.
+pub fn request_is_unique()
+    ensures { RequestIsUnique }
+{
+    ordered_json::laws::meaning_is_unique();
+}

@@ -11,7 +11,7 @@ use Rattle.ordered_json.specs.declared.mode.Mode.{Mode}
 use Rattle.ordered_json.specs.declared.mode.Mode.TheVariants as mode
 use Rattle.ordered_json.specs.declared.reader.Reader.{Reader}
 use Rattle.ordered_json.specs.Grammar.{IsJson, IsWhole}
-use Rattle.ordered_json.specs.Meaning.{magnitude, int_value, fits, value_at, IsTaken, HasValue, Means, max_len}
+use Rattle.ordered_json.specs.Meaning.{IsMeaningless, magnitude, int_value, fits, value_at, IsTaken, HasValue, Means, max_len}
 use Rattle.ordered_json.specs.Faults.{Begins, BeginsFaultless, HasSyntaxFault, HasDoubleKey, HasNumber, HasFraction, IsOutOfRange, IsTooDeep, HasFault}
 use Rattle.ordered_json.specs.Steps.{Outcome, answer, answer_from, answer_of, finish, settle, end_number, step, start}
 use Rattle.ordered_json.proofs.Runs.{answer_from-err}
@@ -191,3 +191,10 @@ fault_of text Memory l h = tt
 pub all_faults : (text : List ℕ) (x : Answer) → length text ≤ max_len → IfErr x (λ fault. fault ≢ Memory → answer text ≡ Err fault) → IfErr x (λ fault. HasFault text fault)
 all_faults text (Ok json) l h = tt
 all_faults text (Err fault) l h = fault_of text fault l h
+
+-- a text that is answered by a fault has no meaning
+pub all_refused : (text : List ℕ) (x : Answer) → IfErr x (λ fault. fault ≢ Memory → answer text ≡ Err fault) → IfErr x (λ fault. fault ≢ Memory → IsMeaningless text)
+all_refused text (Ok json) h = tt
+all_refused text (Err fault) h = λ other json means.
+    let same : ◌≡◌ {A = Answer} (Ok json) (Err fault) = sym (answer-value text json means.1) ∙ h other in
+    cc

@@ -100,3 +100,7 @@ HasValue text json =
 -- the text is short enough, nothing in it is refused, and this is its value
 abbrev pub Means : List ℕ → OrderedJson → Type 0
 Means text json = (length text ≤ max_len) × HasValue text json
+
+-- the text has no meaning: it is no JSON text, or something in it is refused
+abbrev pub IsMeaningless : List ℕ → Type 0
+IsMeaningless text = (json : OrderedJson) → Means text json → ⊥

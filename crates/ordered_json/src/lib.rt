@@ -2,9 +2,9 @@
 //! part, or says which fault comes first and where it stands.
 #![tactic(auto)]
 
-ghost use Rattle.std.specs.Prelude.{IfOk, IfErr};
+ghost use Rattle.std.specs.Prelude.{◌≢◌, IfOk, IfErr};
 ghost use Rattle.ordered_json.specs.Faults.{HasFault};
-ghost use Rattle.ordered_json.specs.Meaning.{Means};
+ghost use Rattle.ordered_json.specs.Meaning.{Means, IsMeaningless};
 
 mod byte;
 mod fault;
@@ -33,6 +33,7 @@ const MAX_LEN: usize = 1_048_576;
 pub fn read(alloc: Global, text: &[u8]) -> Result<OrderedJson, JsonFault>
     ensures ok { IfOk result (λ json. Means text.now json) }
     ensures fault { IfErr result (λ fault. HasFault text.now fault) }
+    ensures refused { IfErr result (λ fault. fault ≢ JsonFault.Memory → IsMeaningless text.now) }
 {
     if text.len() > MAX_LEN {
         return Err(JsonFault::TooLong);
