@@ -1,3 +1,7 @@
+pub mod Beside
 pub mod Counts
-pub mod Streams
+pub mod Disk
+pub mod History
 pub mod Memory
+pub mod Recorded
+pub mod Streams

@@ -2,9 +2,13 @@
 //! count of its faults, and the same in memory with lists of calls that fail.
 #![tactic(auto)]
 
+mod disk;
+mod history;
 mod memory;
+mod recorded;
 mod streams;
 
+pub use disk::Disk;
 pub use memory::{MemoryLink, MemorySink, MemorySource, MemoryStation};
 pub use streams::{Both, Failed, Got, Sink, Source, Station};
 use xs_data::Items;
