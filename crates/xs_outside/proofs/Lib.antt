@@ -1,3 +1,4 @@
 pub mod Images
 pub mod Progress
 pub mod SideImages
+pub mod Moments

@@ -1,17 +1,12 @@
 -- What a crash leaves of a side in memory, before and after a change.
-use Rattle.std.proofs.Common.{◌≡◌, ℕ, ◌≤◌, List, [], ◌∷◌, length, reverse, refl, sym, ◌∙◌, ap, subst, arith}
-use Rattle.std.proofs.lemmas.Bool.Decides.{nat_tests}
+use Rattle.std.proofs.Common.{◌≡◌, ℕ, ◌≤◌, List, ◌∷◌, length, reverse, sym, ◌∙◌, ap, subst, arith}
 use Rattle.xs_outside.specs.declared.history.Change.{Change}
 use Rattle.xs_outside.specs.declared.history.Change.TheVariants.{Write}
 use Rattle.xs_outside.specs.declared.history.SideHistory.{SideHistory}
 use Rattle.xs_outside.specs.Disk.{Torn}
 use Rattle.xs_outside.specs.History.{Left, made_by, latest}
+use Rattle.xs_outside.specs.ReadsAnImage.{made_all}
 use Rattle.xs_outside.specs.Recorded.{SideLeft}
-
--- a history whose last change isn't later is whole
-pub made_all : (moment : ℕ) (history : List Change) → latest history ≤ moment → made_by moment history ≡ history
-made_all moment [] le = refl
-made_all moment (change ∷ earlier) le = grind (arith, nat_tests, le)
 
 -- after a write each image is a torn one of before
 pub torn_from : (old new : SideHistory) (clock moment at : ℕ) (bytes image : List ℕ) → latest (reverse old.changes.items) ≤ clock → clock ≤ moment → new.start ≡ old.start

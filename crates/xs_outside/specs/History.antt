@@ -1,5 +1,5 @@
 -- A side in memory keeps how it came to what it reads. Of a history the last change stands first.
-use Rattle.std.specs.Prelude.{◌≡◌, ℕ, ◌+◌, List, [], ◌∷◌, ◌++◌, length, take, drop, leb, if◌then◌else◌}
+use Rattle.std.specs.Prelude.{◌≡◌, ℕ, ◌+◌, List, [], ◌∷◌, ◌++◌, length, take, drop, leb, Bool, true, ◌&&◌, if◌then◌else◌}
 use Rattle.xs_outside.specs.declared.history.Change.{Change}
 use Rattle.xs_outside.specs.declared.history.Change.TheVariants.{Write, Sync}
 use Rattle.xs_outside.specs.Disk.{Torn}
@@ -34,3 +34,9 @@ abbrev pub Left : List ℕ → List Change → List ℕ → Type 0
 Left start [] side = side ≡ start
 Left start (Write moment at bytes ∷ earlier) side = (from : List ℕ) × Left start earlier from × Torn at (length bytes) from side
 Left start (Sync moment ∷ earlier) side = Left start earlier side × (side ≡ content_of start earlier)
+
+-- each write began inside the side or at its end
+abbrev pub in_place : List ℕ → List Change → Bool
+in_place start [] = true
+in_place start (Write moment at bytes ∷ earlier) = leb at (length (content_of start earlier)) && in_place start earlier
+in_place start (Sync moment ∷ earlier) = in_place start earlier

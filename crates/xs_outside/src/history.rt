@@ -1,7 +1,7 @@
 // A side in memory with all its changes, from which it tells what a crash at each moment may leave.
-ghost use Rattle.std.specs.Prelude.{◌≡◌, ◌+◌, ◌≤◌, ◌∷◌, [], length, reverse, take, drop, OnOk, OnErr, IfOk};
+ghost use Rattle.std.specs.Prelude.{◌≡◌, ◌+◌, ◌≤◌, ◌∷◌, [], IsTrue, length, reverse, take, drop, OnOk, OnErr, IfOk};
 ghost use Rattle.std.specs.Vec.{vec_len};
-ghost use Rattle.xs_outside.specs.History.{content_of, put, latest};
+ghost use Rattle.xs_outside.specs.History.{content_of, put, in_place};
 ghost use Rattle.xs_outside.specs.declared.history.Change.TheVariants.{Write, Sync};
 
 use crate::Bytes;
@@ -29,6 +29,7 @@ pub struct SideHistory {
     pub changes: Vec<Change>,
     pub content: Vec<u8>,
     ghost reads: { content.items ≡ content_of start.items (reverse changes.items) },
+    ghost fits: { IsTrue (in_place start.items (reverse changes.items)) },
 }
 
 impl SideHistory {

@@ -1,5 +1,5 @@
 // The two sides of a disk in memory, with one clock.
-ghost use Rattle.std.specs.Prelude.{◌≡◌, ℕ, ◌+◌, ◌-◌, ◌^◌, ◌≤◌, ◌∷◌, [], IsTrue, length, reverse, take, drop, OnOk, OnErr, IfOk};
+ghost use Rattle.std.specs.Prelude.{◌≡◌, ℕ, ◌+◌, ◌-◌, ◌^◌, ◌≤◌, ◌∷◌, [], min, length, reverse, take, drop, OnOk, OnErr, IfOk};
 ghost use Rattle.xs_outside.specs.History.{latest};
 
 use crate::Side;
@@ -44,6 +44,7 @@ impl Recorded {
 
     /// Lets one call go by that changes no side.
     pub fn tick(&mut self)
+        ensures clock { self.new.clock ≡ min (self.old.clock + 1) (2 ^ 64 - 1) }
         ensures content { content self.new ≡ content self.old }
         ensures images { SameImages (MayLeave self.old self.old.clock) (MayLeave self.new self.new.clock) }
         ensures time { Passes self.old.clock self.new.clock (MayLeave self.old) (MayLeave self.new) }
