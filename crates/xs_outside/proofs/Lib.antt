@@ -2,3 +2,5 @@ pub mod Images
 pub mod Progress
 pub mod SideImages
 pub mod Moments
+pub mod CrashImages
+pub mod AllPossible

@@ -1,5 +1,6 @@
 pub mod Beside
 pub mod Counts
+pub mod Crash
 pub mod Disk
 pub mod History
 pub mod Inputs
@@ -8,3 +9,4 @@ pub mod Recorded
 pub mod Spans
 pub mod Stations
 pub mod Streams
+pub mod Tried

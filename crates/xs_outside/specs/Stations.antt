@@ -1,5 +1,8 @@
 -- What a call on a station in memory leaves as it was.
 use Rattle.std.specs.Prelude.{◌≡◌}
+use Rattle.std.specs.Prelude.{List}
+use Rattle.xs_outside.specs.declared.crash.Image.{Image}
+use Rattle.xs_outside.specs.Tried.{tried}
 use Rattle.xs_outside.specs.declared.memory_station.MemoryStation.{MemoryStation}
 use Rattle.xs_outside.specs.declared.recorded.Recorded.{Recorded}
 use Rattle.xs_outside.specs.Beside.{Stamped}
@@ -29,3 +32,7 @@ pub record WritesOutput (old new : MemoryStation) : Type 0 where
   pub disk_faults : new.disk_faults ≡ old.disk_faults
   pub fetched : new.fetched ≡ old.fetched
   pub moments : Stamped old.sides.clock new.sides.clock (moments_of old.output.spans.items) (moments_of new.output.spans.items)
+
+-- the images that a station gives to try
+abbrev pub all_tried : MemoryStation → List Image
+all_tried station = tried station.sides station.output.bytes.items

@@ -3,6 +3,7 @@
 #![tactic(auto)]
 
 mod buffers;
+mod crash;
 mod disk;
 mod history;
 mod memory;
@@ -13,6 +14,7 @@ mod schedule;
 mod station;
 mod streams;
 
+pub use crash::{Image, Images};
 pub use disk::Disk;
 pub use memory::{MemoryLink, MemorySink, MemorySource};
 pub use memory_disk::MemoryDisk;

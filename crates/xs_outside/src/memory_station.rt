@@ -6,7 +6,7 @@ ghost use Rattle.xs_outside.specs.Spans.{moments_of};
 use crate::buffers::{Input, Output};
 use crate::recorded::Recorded;
 use crate::schedule::Schedule;
-use crate::{Both, Disk, Failed, Got, Side, Sink, Source, Station};
+use crate::{Both, Disk, Failed, Got, Images, Side, Sink, Source, Station};
 use std::alloc::AllocError;
 
 /// The outside of an office in memory. It keeps all bytes that were ever written to its disk.
@@ -25,6 +25,8 @@ pub struct MemoryStation {
 
 impl MemoryStation {
     ghost use Rattle.xs_outside.specs.Disk.{Sides, Settled, on};
+    ghost use Rattle.xs_outside.specs.Stations.{all_tried};
+    ghost use Rattle.xs_outside.specs.Tried.{sides_of};
 
     /// A station with this input and no output, on a disk whose sides hold these bytes, nothing
     /// pending. The calls with these numbers fail, counted from 1 over calls of every kind.
@@ -55,6 +57,17 @@ impl MemoryStation {
     /// fails and does nothing but raise its count and the clock.
     pub fn stop_after(&mut self, k: u64) {
         self.schedule.stop_after(k);
+    }
+
+    /// What a crash now may leave: each side with its pending writes left out, with them done, and with
+    /// their ranges filled with 0, 1 and 255 at the old and at the new length, beside each of the other
+    /// side. These are 1, 8 or 64 images, and each goes through all that was ever written.
+    pub fn images(&self) -> Result<Images, AllocError>
+        ensures tried { IfOk result (λ images. images ≡ all_tried self.now) }
+        ensures possible { IfOk result (λ images. All (λ image. ⟦<MemoryStation as Disk>⟧.may_leave self.now (⟦<MemoryStation as Disk>⟧.clock self.now) (sides_of image)) images) }
+        ensures output { IfOk result (λ images. All (λ image. ⟦<MemoryStation as Sink>⟧.written self.now ≡ Some image.output) images) }
+    {
+        self.sides.images(&self.output.bytes)
     }
 
     /// Lends what was written to the output.
