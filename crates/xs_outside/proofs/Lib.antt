@@ -4,3 +4,4 @@ pub mod SideImages
 pub mod Moments
 pub mod CrashImages
 pub mod AllPossible
+pub mod Outputs
