@@ -25,7 +25,7 @@ pub struct MemoryStation {
 
 impl MemoryStation {
     ghost use Rattle.xs_outside.specs.Disk.{Sides, Settled, on};
-    ghost use Rattle.xs_outside.specs.Stations.{all_tried};
+    ghost use Rattle.xs_outside.specs.Stations.{all_tried, IsNewStation};
     ghost use Rattle.xs_outside.specs.Tried.{sides_of};
 
     /// A station with this input and no output, on a disk whose sides hold these bytes, nothing
@@ -40,6 +40,7 @@ impl MemoryStation {
         ensures output { IfOk result (λ station. ⟦<MemoryStation as Sink>⟧.written station ≡ Some []) }
         ensures content { IfOk result (λ station. ⟦<MemoryStation as Disk>⟧.content station ≡ record { a = a.items; b = b.items }) }
         ensures settled { IfOk result (λ station. Settled ⟦<MemoryStation as Disk>⟧.content ⟦<MemoryStation as Disk>⟧.clock ⟦<MemoryStation as Disk>⟧.may_leave station) }
+        ensures fails { IfOk result (λ station. IsNewStation station fails.items) }
     {
         Ok(MemoryStation {
             output: Output::new(*input.allocator()),
@@ -146,6 +147,7 @@ impl Both for MemoryStation {
 }
 
 impl Disk for MemoryStation {
+    ghost use Rattle.xs_outside.specs.Stations.{LooksAtDisk, StoresOnDisk};
     ghost use Rattle.std.specs.Prelude.{true, Some};
     ghost use Rattle.xs_outside.specs.Recorded as recorded;
     ghost use Rattle.xs_outside.specs.Inputs.{left_of};
@@ -172,6 +174,10 @@ impl Disk for MemoryStation {
       output = Some s.output.bytes.items;
       moments = moments_of s.output.spans.items;
     } };
+
+    ghost looks = { LooksAtDisk };
+
+    ghost stores = { StoresOnDisk };
 
     ghost reads_an_image = { λ s honest. reads_an_image s.sides };
 
