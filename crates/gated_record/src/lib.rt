@@ -3,5 +3,7 @@
 #![tactic(auto)]
 
 mod record;
+#[cfg(test)]
+mod tests;
 
 pub use record::put_record;

@@ -1,7 +1,7 @@
 -- What a call on a station in memory leaves as it was.
 use Rattle.std.specs.Prelude.{◌≡◌, ℕ, IsTrue}
 use Rattle.xs_outside.specs.Schedules.{is_due, Counted, DiskCallCounted, FailsWhere, FailsIf, IsFresh}
-use Rattle.std.specs.Prelude.{List}
+use Rattle.std.specs.Prelude.{List, Some}
 use Rattle.xs_outside.specs.declared.crash.Image.{Image}
 use Rattle.xs_outside.specs.Tried.{tried}
 use Rattle.xs_outside.specs.declared.memory_station.MemoryStation.{MemoryStation}
@@ -43,6 +43,10 @@ pub record WritesOutput (old new : MemoryStation) : Type 0 where
 -- nothing was called yet, and these calls are to fail
 abbrev pub IsNewStation : MemoryStation → List ℕ → Type 0
 IsNewStation station fails = IsFresh station.schedule fails
+
+-- so many calls of the disk are left, and nothing else changed
+abbrev pub IsStoppedAfter : ℕ → MemoryStation → MemoryStation → Type 0
+IsStoppedAfter k old new = new ≡ record old { schedule = record (old.schedule) { disk_calls_left = Some k } }
 
 -- a length or a read of the disk fails where its number is listed, and only there
 pub record LooksAtDisk (old new : MemoryStation) : Type 0 where

@@ -13,6 +13,8 @@ mod recorded;
 mod schedule;
 mod station;
 mod streams;
+#[cfg(test)]
+mod tests;
 
 pub use crash::{Image, Images};
 pub use disk::Disk;

@@ -25,7 +25,7 @@ pub struct MemoryStation {
 
 impl MemoryStation {
     ghost use Rattle.xs_outside.specs.Disk.{Sides, Settled, on};
-    ghost use Rattle.xs_outside.specs.Stations.{all_tried, IsNewStation};
+    ghost use Rattle.xs_outside.specs.Stations.{all_tried, IsNewStation, IsStoppedAfter};
     ghost use Rattle.xs_outside.specs.Tried.{sides_of};
 
     /// A station with this input and no output, on a disk whose sides hold these bytes, nothing
@@ -56,7 +56,9 @@ impl MemoryStation {
 
     /// From now on the station makes so many calls of its disk. Every call after these, of any kind,
     /// fails and does nothing but raise its count and the clock.
-    pub fn stop_after(&mut self, k: u64) {
+    pub fn stop_after(&mut self, k: u64)
+        ensures { IsStoppedAfter k self.old self.new }
+    {
         self.schedule.stop_after(k);
     }
 
