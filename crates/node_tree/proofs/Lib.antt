@@ -1,1 +1,4 @@
+pub mod NameLemmas
 pub mod RisingLemmas
+pub mod TargetLemmas
+pub mod TreeLemmas

@@ -3,8 +3,10 @@
 #![tactic(auto)]
 
 mod build;
+mod names;
 mod node;
 mod node_set;
+mod resolve;
 mod tree;
 
 pub use node::{DOT, HASH, Kind, Name, Node, NodeRows, Recorded, Targets};

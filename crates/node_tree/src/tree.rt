@@ -1,7 +1,7 @@
-ghost use Rattle.std.specs.Prelude.{◌≡◌, ◌↔◌, ◌<◌, ◌^◌, ℕ, IfOk, OnOk, IsTrue, slice_get, length};
-ghost use Rattle.node_tree.specs.Nodes.{IsTree, IsRow, HasNewId, IsFirstBreach, IsBelow, child_of, id_at};
-ghost use Rattle.node_tree.specs.Targets.{target_of};
+ghost use Rattle.std.specs.Prelude.{◌≡◌, ◌↔◌, ◌<◌, ◌^◌, ℕ, IfOk, IfSome, OnOk, IsTrue, slice_get, length};
+ghost use Rattle.node_tree.specs.Nodes.{IsTree, IsRow, HasNewId, IsFirstBreach, IsBelow, child_of, id_at, parent_of};
 
+use crate::names::Names;
 use crate::node::{Node, NodeRows};
 use std::alloc::Global;
 use std::marker::Model;
@@ -29,6 +29,9 @@ pub struct Tree {
     nodes: Vec<Node>,
     /// For each node the number after the last node below it.
     ends: Vec<u32>,
+    ids: Names,
+    /// For each node its children by their keys.
+    children: Vec<Names>,
 }
 
 impl Model for Tree {
@@ -41,7 +44,7 @@ impl Model for Tree {
 
     ghost view = { λ tree. tree.nodes.items };
 
-    ghost invariant = { λ tree. AreTables tree.nodes.items tree.ends.items };
+    ghost invariant = { λ tree. AreTables tree.nodes.items tree.ends.items tree.ids tree.children.items };
 }
 
 impl Tree {
@@ -80,6 +83,15 @@ impl Tree {
         &self.nodes[n as usize]
     }
 
+    /// The parent of a node, where it has one.
+    pub(crate) fn parent(&self, n: u32) -> Option<u32>
+        requires { n < length self.now }
+        ensures parent { result ≡ parent_of self.now n }
+        ensures first { IfSome result (λ parent. parent < n) }
+    {
+        self.nodes[n as usize].parent
+    }
+
     /// Whether `low` is a proper descendant of `high`. It costs two comparisons.
     pub fn below(&self, low: u32, high: u32) -> bool
         requires low { low < length self.now }
@@ -87,5 +99,20 @@ impl Tree {
         ensures { IsTrue result ↔ IsBelow self.now low high }
     {
         high < low && low < self.ends[high as usize]
+    }
+
+    /// The first child of a node with this key. It costs a look-up in an ordered map.
+    pub fn child(&self, n: u32, key: &[u8]) -> Option<u32>
+        requires { n < length self.now }
+        ensures { result ≡ child_of self.now n key.now }
+    {
+        self.children[n as usize].get(key).copied()
+    }
+
+    /// The node with this id. It costs a look-up in an ordered map.
+    pub fn by_id(&self, id: &[u8]) -> Option<u32>
+        ensures { result ≡ id_at self.now id.now }
+    {
+        self.ids.get(id).copied()
     }
 }
