@@ -1,34 +1,19 @@
 -- Keys between dots, and the longest id of a text.
 use Rattle.std.proofs.Common.{◌≡◌, ◌<◌, ◌≤◌, ◌+◌, ◌-◌, ℕ, zero, suc, Bool, true, false, List, [], ◌∷◌, length, take, drop, ◌&&◌, arith, refl, ap, inl, inr}
-use Rattle.std.specs.Prelude.{Option, Some, None, nat_eq, nat_lt, cond, is_some}
+use Rattle.std.specs.Prelude.{Option, Some, None, nat_eq, is_some}
 use Rattle.std.specs.List.{position, position_or_len}
 use Rattle.std.proofs.lemmas.List.Splits.{slice_split_first, slice_split_none}
 use Rattle.std.proofs.lemmas.List.{take_all, length-drop}
 use Rattle.std.proofs.lemmas.List.Quantifiers.{position-Some}
-use Rattle.std.proofs.lemmas.List.Sums.{fails_before_first, position_or_len_is}
+use Rattle.std.proofs.lemmas.List.Sums.{position_or_len_is}
 use Rattle.std.proofs.Math.Nat.{eq-or-lt_of_le}
-use borrow.Author.Tests.{ltb-false, ltb-true}
 use Rattle.std.specs.Option.{option_eq}
 use Rattle.std.specs.Str.{bytes_eq}
 use Rattle.node_tree.specs.declared.node.Node.{Node}
 use Rattle.node_tree.specs.declared.node.TheConstants.{DOT}
+use Rattle.node_tree.proofs.PlaceLemmas.{position_inside, position_none}
 use Rattle.node_tree.specs.Targets.{keys_of, keys_after_dot, down, largest, id_front, from_id}
 use Rattle.node_tree.specs.Nodes.{child_of}
-
-none_from : (b : Bool) (x : ℕ) → cond b (Some x) None ≡ None → b ≡ false
-none_from true x h = cc
-none_from false x h = refl
-
-some_from : (b : Bool) (x i : ℕ) → cond b (Some x) None ≡ Some i → (b ≡ true) × (x ≡ i)
-some_from true x i h = (refl, cc)
-some_from false x i h = cc
-
--- what is found is in the list
-pub position_inside : {X : Type 0} (p : X → Bool) (xs : List X) (i : ℕ) → position p xs ≡ Some i → i < length xs
-position_inside p xs i h =
-    let at = some_from (nat_lt (position_or_len p xs) (length xs)) (position_or_len p xs) i h in
-    let less = ltb-true _ _ at.0 in
-    omega (arith, at.1)
 
 -- the rest of a slice, as a range without an end gives it
 pub take-rest : {X : Type 0} (k : ℕ) (xs : List X) → take (length xs - k) (drop k xs) ≡ drop k xs
@@ -46,8 +31,7 @@ first_key text dot h =
 pub only_key : (text : List ℕ) → position (λ b. nat_eq b DOT) text ≡ None → keys_of text ≡ text ∷ []
 only_key text h =
     let p : ℕ → Bool = λ b. nat_eq b DOT in
-    let past : length text ≤ position_or_len p text = ltb-false _ _ (none_from (nat_lt (position_or_len p text) (length text)) (position_or_len p text) h) in
-    slice_split_none p text (λ k d inside. fails_before_first p text k d (omega arith))
+    slice_split_none p text (λ k d inside. position_none p text h k d inside)
 
 pub down-none : (nodes : List Node) (keys : List (List ℕ)) → down nodes None keys ≡ None
 down-none nodes [] = refl

@@ -1,17 +1,14 @@
 -- Nodes in document order: what is below what, and where a subtree ends.
-use Rattle.std.proofs.Common.{◌≡◌, ◌↔◌, ◌<◌, ◌≤◌, ◌+◌, ℕ, zero, suc, List, length, arith, refl, sym, subst, inl, inr}
-use Rattle.std.specs.Prelude.{Option, Some, None, IfSome, slice_get}
+use Rattle.std.proofs.Common.{get_or, ◌≡◌, ◌↔◌, ◌<◌, ◌≤◌, ◌+◌, ℕ, zero, suc, List, length, arith, refl, sym, subst, inl, inr, ap, ◌∙◌}
+use Rattle.std.specs.Prelude.{Option, Some, None, IfSome, IsSomeAnd, slice_get}
 use Rattle.std.proofs.Math.Nat.{eq-or-lt_of_le}
 use Rattle.std.proofs.lemmas.Bool.{cases_lt}
-use Rattle.std.proofs.lemmas.Option.{slice_get_cases}
+use Rattle.std.proofs.lemmas.Option.{slice_get_cases, slice_get-get_or}
+use Rattle.node_tree.specs.Tables.{IsEnd}
 use Rattle.node_tree.specs.declared.node.Node.{Node}
-use Rattle.node_tree.specs.Nodes.{IsBelow, child, further, IsChild, IsWithin, IsPlaced, IsTree, parent_of}
+use Rattle.node_tree.specs.Nodes.{ArePlaced, IsBelow, child, further, IsChild, IsWithin, IsPlaced, IsTree, parent_of}
 
 module _ (nodes : List Node) where
-  -- the rows before a place are in theirs
-  abbrev pub ArePlaced : ℕ → Type 0
-  ArePlaced end = (k : ℕ) → k < end → IsPlaced nodes k
-
   -- a node has one parent
   pub one_parent : (low a b : ℕ) → IsChild nodes low a → IsChild nodes low b → a ≡ b
   one_parent low a b is_a is_b = cc
@@ -62,7 +59,7 @@ module _ (nodes : List Node) where
       omega arith
 
   -- whatever a row is below stands before it
-  pub above_first : (end : ℕ) → ArePlaced end → (low high : ℕ) → low < end → IsBelow nodes low high → high < low
+  pub above_first : (end : ℕ) → ArePlaced nodes end → (low high : ℕ) → low < end → IsBelow nodes low high → high < low
   above_first zero placed low high inside below = absurd (omega arith)
   above_first (suc end) placed low high inside below =
       let earlier = above_first end (λ k less. placed k (omega arith)) in
@@ -79,7 +76,7 @@ module _ (nodes : List Node) where
       within-trans before own high within (within-parent (suc before) own high is_own below)
 
   -- the rows between a node and one below it are below it
-  pub below_between : (low : ℕ) → ArePlaced (low + 1) → (high : ℕ) → IsBelow nodes low high → (k : ℕ) → high < k → k ≤ low → IsBelow nodes k high
+  pub below_between : (low : ℕ) → ArePlaced nodes (low + 1) → (high : ℕ) → IsBelow nodes low high → (k : ℕ) → high < k → k ≤ low → IsBelow nodes k high
   below_between zero placed high below k after upto = absurd (omega arith)
   below_between (suc before) placed high below k after upto =
       elim (eq-or-lt_of_le upto) [
@@ -91,7 +88,7 @@ module _ (nodes : List Node) where
       ]
 
   -- where the rows after a node are below it up to one that is not, these are all that are
-  pub subtree_ends : ArePlaced (length nodes) → (high end : ℕ) → high < end → ((k : ℕ) → high < k → k < end → IsBelow nodes k high) → (IsBelow nodes end high → ⊥)
+  pub subtree_ends : ArePlaced nodes (length nodes) → (high end : ℕ) → high < end → ((k : ℕ) → high < k → k < end → IsBelow nodes k high) → (IsBelow nodes end high → ⊥)
       → (low : ℕ) → low < length nodes → IsBelow nodes low high ↔ ((high < low) × (low < end))
   subtree_ends placed high end after all none low inside = (
     (λ below. (
@@ -117,3 +114,67 @@ if_some (Some x) P h = h x refl
 pub read_parent_first : (nodes : List Node) → IsTree nodes → (n : ℕ) (node : Node) → slice_get nodes n ≡ Some node → IfSome node.parent (λ parent. parent < n)
 read_parent_first nodes tree n node is =
     if_some node.parent (λ parent. parent < n) (λ parent named. parent_first nodes tree n parent (rw is named))
+
+-- what a read of a row says of its parent
+pub read_parent : (nodes : List Node) (n : ℕ) (d : Node) → n < length nodes → parent_of nodes n ≡ (get_or nodes n d).parent
+read_parent nodes n d inside = rw (slice_get-get_or nodes n d inside) refl
+
+-- what has no parent is below nothing
+pub root_is_below_none : (nodes : List Node) (n high : ℕ) → parent_of nodes n ≡ None → IsBelow nodes n high → ⊥
+root_is_below_none nodes n high none (child _ _ is) = no_parent nodes n high none is
+root_is_below_none nodes n high none (further _ parent _ is rest) = no_parent nodes n parent none is
+
+-- what is past the rows is below nothing
+pub past_is_below_none : (nodes : List Node) (n high : ℕ) → length nodes ≤ n → IsBelow nodes n high → ⊥
+past_is_below_none nodes n high past (child _ _ is) = let inside = child_inside nodes n high is in absurd (omega arith)
+past_is_below_none nodes n high past (further _ parent _ is rest) = let inside = child_inside nodes n parent is in absurd (omega arith)
+
+-- a row whose parent stands before a node is not below that node
+pub not_below-parent_before : (nodes : List Node) (end n parent high : ℕ) → ArePlaced nodes end → n < end → IsChild nodes n parent → parent < high → IsBelow nodes n high → ⊥
+not_below-parent_before nodes end n parent high placed inside is before below =
+    let first = above_first nodes end placed n parent inside (child n parent is) in
+    elim (within-parent nodes n parent high is below) [
+      | inl same ↦ absurd (omega arith)
+      | inr above ↦ let less = above_first nodes end placed parent high (omega arith) above in absurd (omega arith)
+    ]
+
+-- a row whose parent is a node or among the rows below it is below that node, and so is its subtree
+pub below_more_rows : (nodes : List Node) (n at end parent : ℕ) → n < at → ((k : ℕ) → n < k → k < at → IsBelow nodes k n) → IsChild nodes at parent → parent < at → n ≤ parent → IsEnd nodes at end
+    → (k : ℕ) → n < k → k < end → IsBelow nodes k n
+below_more_rows nodes n at end parent after below is first from ends k past upto =
+    let here : IsBelow nodes at n = below-child nodes at parent n is (elim (eq-or-lt_of_le from) [
+      | inl same ↦ inl (sym same)
+      | inr less ↦ inr (below parent less first)
+    ]) in
+    elim (cases_lt k at) [
+      | inl earlier ↦ below k past earlier
+      | inr later ↦ elim (eq-or-lt_of_le later) [
+        | inl same ↦ subst (λ j. IsBelow nodes j n) same here
+        | inr within ↦ below-trans nodes k at n (ends.below k within upto) here
+      ]
+    ]
+
+some_and : {X : Type 0} (o : Option X) (P : X → Type 0) → IsSomeAnd o P → (x : X) × (o ≡ Some x) × P x
+some_and None P none = absurd none
+some_and (Some x) P holds = (x, refl, holds)
+
+-- a row whose parent, if any, stands before a node is not below that node
+stops_by : (nodes : List Node) (n at : ℕ) (o : Option ℕ) → ArePlaced nodes (length nodes) → at < length nodes → parent_of nodes at ≡ o → (IsSomeAnd o (λ parent. n ≤ parent) → ⊥) → IsBelow nodes at n → ⊥
+stops_by nodes n at None placed inside is not_from below = root_is_below_none nodes at n is below
+stops_by nodes n at (Some parent) placed inside is not_from below =
+    elim (cases_lt parent n) [
+      | inl before ↦ not_below-parent_before nodes (length nodes) at parent n placed inside is before below
+      | inr from ↦ absurd (not_from from)
+    ]
+
+pub stops_here : (nodes : List Node) (n at : ℕ) (node : Node) → ArePlaced nodes (length nodes) → at < length nodes → node ≡ get_or nodes at node → (IsSomeAnd node.parent (λ parent. n ≤ parent) → ⊥) → IsBelow nodes at n → ⊥
+stops_here nodes n at node placed inside is not_from =
+    stops_by nodes n at node.parent placed inside (read_parent nodes at node inside ∙ ap (λ (x : Node). x.parent) (sym is)) not_from
+
+-- what passing over one more subtree keeps
+pub goes_on : (nodes : List Node) (n at end : ℕ) (node : Node) → ArePlaced nodes (length nodes) → n < at → at < length nodes → ((k : ℕ) → n < k → k < at → IsBelow nodes k n) → node ≡ get_or nodes at node → IsSomeAnd node.parent (λ parent. n ≤ parent) → IsEnd nodes at end
+    → (k : ℕ) → n < k → k < end → IsBelow nodes k n
+goes_on nodes n at end node placed after inside below is from ends =
+    let (parent, named, upto) = some_and node.parent (λ parent. n ≤ parent) from in
+    let is_child : IsChild nodes at parent = read_parent nodes at node inside ∙ ap (λ (x : Node). x.parent) (sym is) ∙ named in
+    below_more_rows nodes n at end parent after below is_child (above_first nodes (length nodes) placed at parent inside (child at parent is_child)) upto ends

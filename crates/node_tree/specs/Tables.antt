@@ -1,5 +1,5 @@
 -- What a tree keeps beside its nodes, so that each look-up is short.
-use Rattle.std.specs.Prelude.{◌≡◌, ◌↔◌, ◌<◌, ℕ, List, length, slice_index, slice_index_or, Option, Vec}
+use Rattle.std.specs.Prelude.{◌≡◌, ◌↔◌, ◌<◌, ◌≤◌, ℕ, List, length, slice_index, slice_index_or, Option, Vec}
 use Rattle.std.specs.BTreeMap.{BTreeMap, get_by}
 use Rattle.std.specs.Cmp.Lexicographic.{slice_cmp}
 use Rattle.std.specs.Ordering.{nat_cmp}
@@ -14,6 +14,13 @@ Names = BTreeMap (Vec ℕ Global) ℕ
 -- the node that a name stands for
 abbrev pub named : Names → List ℕ → Option ℕ
 named names name = get_by (λ held. slice_cmp nat_cmp name held.items) names
+
+-- the rows between a node and this number are below the node, and no row from it on is
+pub record IsEnd (nodes : List Node) (n end : ℕ) : Type 0 where
+  pub after : n < end
+  pub inside : end ≤ length nodes
+  pub below : (k : ℕ) → n < k → k < end → IsBelow nodes k n
+  pub last : IsBelow nodes end n → ⊥
 
 -- in document order the nodes below a node follow it, up to where its subtree ends
 abbrev pub AreEnds : List Node → List ℕ → Type 0

@@ -1,26 +1,13 @@
 ghost use Rattle.std.specs.Prelude.{◌≡◌, ◌↔◌, ◌<◌, ◌^◌, ℕ, IfOk, IfSome, OnOk, IsTrue, slice_get, length};
 ghost use Rattle.node_tree.specs.Nodes.{IsTree, IsRow, HasNewId, IsFirstBreach, IsBelow, child_of, id_at, parent_of};
 
-use crate::names::Names;
+use crate::ends::subtree_ends;
+use crate::fault::TreeFault;
+use crate::names::{Names, index_children, index_ids};
 use crate::node::{Node, NodeRows};
+use crate::order::first_misplaced;
 use std::alloc::Global;
 use std::marker::Model;
-use thiserror::Error;
-
-/// Why rows are no tree.
-#[derive(Debug, Drop, Error)]
-pub enum TreeFault {
-    /// A row that isn't in its place in document order, or that names an initial child that is no child
-    /// of it or a history default that is no row: the first such row.
-    #[error("row {0} is out of place or names a node that is not there")]
-    NoNode(u32),
-    /// A row whose id an earlier row has: the first such row.
-    #[error("row {0} has the id of an earlier row")]
-    DoubleId(u32),
-    /// Memory ran out.
-    #[error("out of memory")]
-    Memory,
-}
 
 /// The nodes of a machine. Contracts see the list of them in document order, in which a node's number
 /// is its place, counted from 0.
@@ -58,13 +45,23 @@ impl Tree {
         ensures ok { OnOk result (IsTree rows) }
 
         // Otherwise the first misplaced row, and only where there is none the first repeated id.
-        ensures no_node { (n : ℕ) → result ≡ Err (TreeFault.NoNode n) → IsFirstBreach (IsRow rows) (length rows) n }
+        ensures no_node { (n : ℕ) → (result ≡ Err (TreeFault.NoNode n)) ↔ IsFirstBreach (IsRow rows) (length rows) n }
         ensures rows_first { (n : ℕ) → result ≡ Err (TreeFault.DoubleId n) → (k : ℕ) → k < length rows → IsRow rows k }
         ensures double_id { (n : ℕ) → result ≡ Err (TreeFault.DoubleId n) → IsFirstBreach (HasNewId rows) (length rows) n }
     {
-        let _ = alloc;
-        let _ = rows;
-        Err(TreeFault::Memory)
+        let nodes = rows.into_vec();
+        if let Some(n) = first_misplaced(&nodes) {
+            return Err(TreeFault::NoNode(n));
+        }
+        let ids = index_ids(alloc, &nodes)?;
+        let ends = subtree_ends(alloc, &nodes)?;
+        let children = index_children(alloc, &nodes)?;
+        Ok(Tree {
+            nodes,
+            ends,
+            ids,
+            children,
+        })
     }
 
     /// How many nodes there are. The clause `tree` says what is known of the nodes of every tree.
