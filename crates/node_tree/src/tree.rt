@@ -16,6 +16,7 @@ pub struct Tree {
     nodes: Vec<Node>,
     /// For each node the number after the last node below it.
     ends: Vec<u32>,
+    /// The nodes by their ids.
     ids: Names,
     /// For each node its children by their keys.
     children: Vec<Names>,
@@ -35,7 +36,7 @@ impl Model for Tree {
 }
 
 impl Tree {
-    /// The tree of these rows, in the time of O(n log n) comparisons of names.
+    /// The tree of these rows. It costs O(n log n) comparisons of names, and copies each key and id.
     pub fn build(alloc: Global, rows: NodeRows) -> Result<Tree, TreeFault>
         requires some { 0 < length rows }
         requires few { length rows < 2 ^ 32 }
