@@ -1,5 +1,5 @@
 ghost use Rattle.std.specs.Prelude.{◌≡◌, ◌↔◌, ◌<◌, ◌^◌, ℕ, IfOk, IfSome, OnOk, IsTrue, slice_get, length};
-ghost use Rattle.node_tree.specs.Nodes.{IsTree, IsRow, HasNewId, IsFirstBreach, IsBelow, child_of, id_at, parent_of};
+ghost use Rattle.node_tree.specs.Nodes.{AreRows, IsBelow, IsFirstMisplaced, IsFirstRepeated, IsTree, child_of, id_at, parent_of};
 
 use crate::ends::subtree_ends;
 use crate::fault::TreeFault;
@@ -46,9 +46,9 @@ impl Tree {
         ensures ok { OnOk result (IsTree rows) }
 
         // Otherwise the first misplaced row, and only where there is none the first repeated id.
-        ensures no_node { (n : ℕ) → (result ≡ Err (TreeFault.NoNode n)) ↔ IsFirstBreach (IsRow rows) (length rows) n }
-        ensures rows_first { (n : ℕ) → result ≡ Err (TreeFault.DoubleId n) → (k : ℕ) → k < length rows → IsRow rows k }
-        ensures double_id { (n : ℕ) → result ≡ Err (TreeFault.DoubleId n) → IsFirstBreach (HasNewId rows) (length rows) n }
+        ensures no_node { (n : ℕ) → (result ≡ Err (TreeFault.NoNode n)) ↔ IsFirstMisplaced rows n }
+        ensures rows_first { (n : ℕ) → result ≡ Err (TreeFault.DoubleId n) → AreRows rows }
+        ensures double_id { (n : ℕ) → result ≡ Err (TreeFault.DoubleId n) → IsFirstRepeated rows n }
     {
         let nodes = rows.into_vec();
         if let Some(n) = first_misplaced(&nodes) {
