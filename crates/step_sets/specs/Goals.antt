@@ -1,5 +1,6 @@
 -- The effective targets of a transition, after SCXML's getEffectiveTargetStates.
-use Rattle.std.specs.Prelude.{ℕ, List, [], ◌∷◌, Option, Some, None, ◌==◌, unwrap_or, option_and_then}
+use Rattle.std.specs.Prelude.{ℕ, List, [], ◌∷◌, Option, Some, None, ◌==◌, unwrap_or, option_to_list}
+use Rattle.std.specs.Option.{option_or}
 use Rattle.std.specs.List.{flat_map}
 use Rattle.std.specs.Map.{lookup}
 use Rattle.node_tree.specs.declared.node.Kind.{Kind}
@@ -15,12 +16,6 @@ History = List (ℕ × List ℕ)
 abbrev pub record_of : History → ℕ → Option (List ℕ)
 record_of history h = lookup (λ k. k == h) history
 
--- the default of a history node, or else its parent
-abbrev pub default_or_parent : Option ℕ → Option ℕ → List ℕ
-default_or_parent (Some default) parent = default ∷ []
-default_or_parent None (Some parent) = parent ∷ []
-default_or_parent None None = []
-
 -- the nodes that are recorded, or else the others
 abbrev pub recorded_or : List ℕ → List ℕ → List ℕ
 recorded_or [] others = others
@@ -29,8 +24,8 @@ recorded_or (n ∷ rest) others = n ∷ rest
 -- where a target of this kind leads: a history node to what is recorded for it, or else to its
 -- default, or else to its parent; any other node to itself
 abbrev pub goals_by_kind : Kind → ℕ → List ℕ → Option ℕ → List ℕ
-goals_by_kind (Shallow default) target recorded parent = recorded_or recorded (default_or_parent default parent)
-goals_by_kind (Deep default) target recorded parent = recorded_or recorded (default_or_parent default parent)
+goals_by_kind (Shallow default) target recorded parent = recorded_or recorded (option_to_list (option_or default parent))
+goals_by_kind (Deep default) target recorded parent = recorded_or recorded (option_to_list (option_or default parent))
 goals_by_kind Atomic target recorded parent = target ∷ []
 goals_by_kind (Compound initial) target recorded parent = target ∷ []
 goals_by_kind Parallel target recorded parent = target ∷ []
