@@ -1,3 +1,4 @@
 pub mod TreeLemmas
 pub mod SetLemmas
 pub mod PreemptionLemmas
+pub mod MarkLemmas

@@ -1,5 +1,5 @@
 -- The entry set of a transition, after SCXML's computeEntrySet.
-use Rattle.std.specs.Prelude.{◌≡◌, ℕ, List, Some, Contains}
+use Rattle.std.specs.Prelude.{◌≡◌, ◌⊎◌, ℕ, List, Some, Contains}
 use Rattle.node_tree.specs.declared.node.Kind.TheVariants.{Compound, Parallel}
 use Rattle.node_tree.specs.Nodes.{IsChild, IsWithin}
 use Rattle.step_sets.specs.Kinds.{Nodes, kind_of, IsHistory}
@@ -11,9 +11,9 @@ use Rattle.step_sets.specs.declared.types.Domain.TheVariants.{Node, Whole}
 abbrev pub LeadsToGoal : Nodes → List ℕ → ℕ → Type 0
 LeadsToGoal nodes goals n = (goal : ℕ) × Contains goals goal × IsWithin nodes goal n
 
--- no child of the node is a goal or an ancestor of one
-abbrev pub HasNoGoalBelow : Nodes → List ℕ → ℕ → Type 0
-HasNoGoalBelow nodes goals p = (child : ℕ) → IsChild nodes child p → ¬ LeadsToGoal nodes goals child
+-- a child of the node is a goal or an ancestor of one
+abbrev pub HasGoalBelow : Nodes → List ℕ → ℕ → Type 0
+HasGoalBelow nodes goals p = (child : ℕ) × IsChild nodes child p × LeadsToGoal nodes goals child
 
 -- the node is below the domain and is no history node
 abbrev pub CanBeEntered : Nodes → Domain → ℕ → Type 0
@@ -26,10 +26,17 @@ mutual
   pub data IsEntered (nodes : Nodes) (goals : List ℕ) (domain : Domain) : ℕ → Type 0 where
     towards_goal : {n : ℕ} → CanBeEntered nodes domain n → LeadsToGoal nodes goals n → IsEntered nodes goals domain n
     region : {n p : ℕ} → CanBeEntered nodes domain n → IsChild nodes n p → kind_of nodes p ≡ Some Parallel → Opens nodes goals domain p → IsEntered nodes goals domain n
-    initial : {n p : ℕ} → CanBeEntered nodes domain n → IsChild nodes n p → kind_of nodes p ≡ Some (Compound n) → HasNoGoalBelow nodes goals p → Opens nodes goals domain p → IsEntered nodes goals domain n
+    initial : {n p : ℕ} → CanBeEntered nodes domain n → IsChild nodes n p → kind_of nodes p ≡ Some (Compound n) → ¬ HasGoalBelow nodes goals p → Opens nodes goals domain p → IsEntered nodes goals domain n
     root : domain ≡ Whole → IsEntered nodes goals domain 0
 
   -- a node opens if it is the domain or is entered
   pub data Opens (nodes : Nodes) (goals : List ℕ) (domain : Domain) : ℕ → Type 0 where
     as_domain : {p : ℕ} → domain ≡ Node p → Opens nodes goals domain p
     as_entered : {p : ℕ} → IsEntered nodes goals domain p → Opens nodes goals domain p
+
+-- the node is a region of a parallel node that opens, or the initial child of a compound one that opens
+-- and has no child that leads to a goal
+abbrev pub IsEnteredByParent : Nodes → List ℕ → Domain → ℕ → Type 0
+IsEnteredByParent nodes goals domain n =
+    (p : ℕ) × IsChild nodes n p × Opens nodes goals domain p
+        × ((kind_of nodes p ≡ Some Parallel) ⊎ ((kind_of nodes p ≡ Some (Compound n)) × ¬ HasGoalBelow nodes goals p))

@@ -5,5 +5,6 @@ pub mod Exits
 pub mod Goals
 pub mod History
 pub mod Kinds
+pub mod Marks
 pub mod Preemption
 pub mod Sets

@@ -4,6 +4,7 @@
 mod entries;
 mod exits;
 mod history;
+mod marks;
 mod preemption;
 mod targets;
 mod transition_domain;
