@@ -2,3 +2,4 @@ pub mod TreeLemmas
 pub mod SetLemmas
 pub mod PreemptionLemmas
 pub mod MarkLemmas
+pub mod EntryLemmas

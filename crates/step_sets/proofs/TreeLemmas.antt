@@ -1,7 +1,7 @@
 -- Where nodes stand in a tree.
 use Rattle.std.proofs.Common.{◌≡◌, ◌<◌, ◌≤◌, ◌⊎◌, ℕ, zero, suc, List, length, Option, Some, None, arith, inl, inr, sym, ◌∙◌, subst, refl}
 use Rattle.std.specs.Prelude.{slice_get}
-use Rattle.std.specs.Option.{option_and_then}
+use Rattle.std.specs.Option.{IfSome, option_and_then}
 use Rattle.std.proofs.lemmas.Option.{slice_get_within}
 use Rattle.node_tree.specs.declared.node.Node.{Node}
 use Rattle.node_tree.specs.Nodes.{IsTree, IsRow, IsPlaced, IsChild, IsBelow, IsWithin, parent_of, child, further}
@@ -71,3 +71,16 @@ below_parent nodes l0 h0 p (further low parent high c b) d = further low parent 
 pub within_parent : (nodes : List Node) (l h p : ℕ) → IsWithin nodes l h → IsChild nodes h p → IsBelow nodes l p
 within_parent nodes l h p (inl e) d = let P : ℕ → Type 0 = λ x. IsBelow nodes x p in subst P (sym e) (child h p d)
 within_parent nodes l h p (inr b) d = below_parent nodes l h p b d
+
+-- the parent that a row names stands before it
+pub parent_before : (nodes : List Node) → IsTree nodes → (n : ℕ) (node : Node) → slice_get nodes n ≡ Some node → IfSome node.parent (λ p. p < n)
+parent_before nodes tree n node is = at node.parent refl
+  where
+    at : (o : Option ℕ) → node.parent ≡ o → IfSome o (λ p. p < n)
+    at None e = tt
+    at (Some p) e = parent_less nodes tree n p (child_read nodes n p node is e)
+
+-- what is below a node is a node of the tree
+pub below_inside : (nodes : List Node) (l h : ℕ) → IsBelow nodes l h → l < length nodes
+below_inside nodes l h (child low high c) = child_inside nodes low high c
+below_inside nodes l h (further low parent high c b) = child_inside nodes low parent c

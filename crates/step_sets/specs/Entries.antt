@@ -1,5 +1,5 @@
 -- The entry set of a transition, after SCXML's computeEntrySet.
-use Rattle.std.specs.Prelude.{◌≡◌, ◌⊎◌, ℕ, List, Some, Contains}
+use Rattle.std.specs.Prelude.{◌≡◌, ℕ, List, Some, Contains}
 use Rattle.node_tree.specs.declared.node.Kind.TheVariants.{Compound, Parallel}
 use Rattle.node_tree.specs.Nodes.{IsChild, IsWithin}
 use Rattle.step_sets.specs.Kinds.{Nodes, kind_of, IsHistory}
@@ -33,10 +33,3 @@ mutual
   pub data Opens (nodes : Nodes) (goals : List ℕ) (domain : Domain) : ℕ → Type 0 where
     as_domain : {p : ℕ} → domain ≡ Node p → Opens nodes goals domain p
     as_entered : {p : ℕ} → IsEntered nodes goals domain p → Opens nodes goals domain p
-
--- the node is a region of a parallel node that opens, or the initial child of a compound one that opens
--- and has no child that leads to a goal
-abbrev pub IsEnteredByParent : Nodes → List ℕ → Domain → ℕ → Type 0
-IsEnteredByParent nodes goals domain n =
-    (p : ℕ) × IsChild nodes n p × Opens nodes goals domain p
-        × ((kind_of nodes p ≡ Some Parallel) ⊎ ((kind_of nodes p ≡ Some (Compound n)) × ¬ HasGoalBelow nodes goals p))

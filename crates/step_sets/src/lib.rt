@@ -5,6 +5,7 @@ mod entries;
 mod exits;
 mod history;
 mod marks;
+mod nodes;
 mod preemption;
 mod targets;
 mod transition_domain;

@@ -7,6 +7,8 @@ use std::alloc::{AllocError, Global};
 
 use node_tree::Tree;
 
+use crate::nodes::parent;
+
 /// Marks the nodes of the list among all nodes of the tree.
 pub(crate) fn mark(alloc: Global, tree: &Tree, nodes: &[u32]) -> Result<Vec<bool>, AllocError>
     requires { AreNodes tree.now nodes.now }
@@ -60,8 +62,7 @@ fn mark_parent(tree: &Tree, marks: &mut Vec<bool>, node: u32)
     ensures tells { (n : ℕ) → n < length tree.now → IsTrue (slice_index_or marks.new.items n false)
         ↔ (IsTrue (slice_index_or marks.old.items n false) ⊎ IsChild tree.now node n) }
 {
-    let _nodes = tree.len();
-    if let Some(parent) = tree.node(node).parent {
-        marks[parent as usize] = true;
+    if let Some(above) = parent(tree, node) {
+        marks[above as usize] = true;
     }
 }

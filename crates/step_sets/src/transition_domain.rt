@@ -5,6 +5,7 @@ ghost use Rattle.step_sets.specs.Domains.{IsDomain, IsInternal, IsCommonAncestor
 use node_tree::Tree;
 
 use crate::Domain;
+use crate::nodes::parent;
 
 /// The domain of a transition with targets, after SCXML's `getTransitionDomain`: the node below which
 /// the transition leaves and enters. A history target counts as the history node itself. It costs as
@@ -46,13 +47,12 @@ fn innermost_ancestor(tree: &Tree, source: u32, targets: &[u32]) -> Option<u32>
         ((a : ℕ) → ¬ IsCommonAncestor tree.now source targets.now a)
         (λ a. IsInnermostAncestor tree.now source targets.now a) }
 {
-    let _nodes = tree.len();
     let mut node = source;
-    while let Some(parent) = tree.node(node).parent {
-        if all_below(tree, targets, parent) {
-            return Some(parent);
+    while let Some(above) = parent(tree, node) {
+        if all_below(tree, targets, above) {
+            return Some(above);
         }
-        node = parent;
+        node = above;
     }
     None
 }
