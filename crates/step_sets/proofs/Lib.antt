@@ -3,3 +3,4 @@ pub mod SetLemmas
 pub mod PreemptionLemmas
 pub mod MarkLemmas
 pub mod EntryLemmas
+pub mod HistoryLemmas
