@@ -35,6 +35,10 @@ abbrev pub IsPlaced : List Node → ℕ → Type 0
 IsPlaced nodes zero = parent_of nodes 0 ≡ None
 IsPlaced nodes (suc before) = (parent : ℕ) × IsChild nodes (suc before) parent × IsWithin nodes before parent
 
+-- the rows before a number are in their places
+abbrev pub ArePlaced : List Node → ℕ → Type 0
+ArePlaced nodes end = (n : ℕ) → n < end → IsPlaced nodes n
+
 -- the nodes that a row's kind names are there: its initial child is a child of it, its history default a row
 abbrev pub NamesNodes : List Node → ℕ → Kind → Type 0
 NamesNodes nodes n Atomic = Unit {0}
@@ -44,10 +48,14 @@ NamesNodes nodes n Final = Unit {0}
 NamesNodes nodes n (Shallow default) = IfSome default (λ d. d < length nodes)
 NamesNodes nodes n (Deep default) = IfSome default (λ d. d < length nodes)
 
+-- a row names nodes that are there
+abbrev pub HasNames : List Node → ℕ → Type 0
+HasNames nodes n = IfSome (slice_get nodes n) (λ node. NamesNodes nodes n node.kind)
+
 -- a row is in its place, and names nodes that are there
 pub record IsRow (nodes : List Node) (n : ℕ) : Type 0 where
   pub placed : IsPlaced nodes n
-  pub names : IfSome (slice_get nodes n) (λ node. NamesNodes nodes n node.kind)
+  pub names : HasNames nodes n
 
 -- no earlier row has the id of this one
 abbrev pub HasNewId : List Node → ℕ → Type 0

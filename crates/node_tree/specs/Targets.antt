@@ -1,19 +1,14 @@
 -- What a target text leads to: `#id`, `#id.k.l`, `.k.l` and `k.l`.
-use Rattle.std.specs.Prelude.{◌==◌, ◌&&◌, ℕ, zero, suc, Bool, true, List, [], ◌∷◌, length, take, drop, if◌then◌else◌, Option, Some, None, is_some}
+use Rattle.std.specs.Prelude.{◌==◌, ℕ, zero, suc, Bool, true, List, [], ◌∷◌, length, take, drop, if◌then◌else◌, Option, Some, None, is_some}
 use Rattle.std.specs.Option.{option_and_then}
+use Rattle.std.specs.List.{slice_split}
 use Rattle.node_tree.specs.declared.node.Node.{Node}
 use Rattle.node_tree.specs.declared.node.TheConstants.{DOT, HASH}
 use Rattle.node_tree.specs.Nodes.{parent_of, child_of, id_at}
 
--- a byte before the first of some keys
-abbrev pub before_keys : ℕ → List (List ℕ) → List (List ℕ)
-before_keys b [] = (b ∷ []) ∷ []
-before_keys b (key ∷ keys) = (b ∷ key) ∷ keys
-
 -- the keys between the dots of a text
 abbrev pub keys_of : List ℕ → List (List ℕ)
-keys_of [] = [] ∷ []
-keys_of (b ∷ bs) = if b == DOT then [] ∷ keys_of bs else before_keys b (keys_of bs)
+keys_of text = slice_split (λ b. b == DOT) text
 
 -- the node that keys lead down to, each the key of a child
 abbrev pub down : List Node → Option ℕ → List (List ℕ) → Option ℕ
@@ -35,15 +30,15 @@ abbrev pub keys_after_dot : List ℕ → List (List ℕ)
 keys_after_dot [] = []
 keys_after_dot (b ∷ bs) = keys_of bs
 
--- whether the first bytes of a text are an id that ends the text or stands before a dot
-abbrev pub is_id_front : List Node → List ℕ → ℕ → Bool
-is_id_front nodes text len = ends_key (drop len text) && is_some (id_at nodes (take len text))
+-- the node whose id is the first bytes of a text, where they end the text or stand before a dot
+abbrev pub id_front : List Node → List ℕ → ℕ → Option ℕ
+id_front nodes text len = if ends_key (drop len text) then id_at nodes (take len text) else None
 
 -- the node under the longest such id, and from it down by the keys that are left
 abbrev pub from_id : List Node → List ℕ → Option ℕ
 from_id nodes text =
-    option_and_then (λ len. down nodes (id_at nodes (take len text)) (keys_after_dot (drop len text)))
-    (largest (is_id_front nodes text) (length text))
+    option_and_then (λ len. down nodes (id_front nodes text len) (keys_after_dot (drop len text)))
+    (largest (λ len. is_some (id_front nodes text len)) (length text))
 
 -- `#` leads to an id, a dot down from the source, and anything else down from the source's parent
 abbrev pub target_of : List Node → ℕ → List ℕ → Option ℕ

@@ -2,11 +2,16 @@
 //! id, by key and by target text. Contracts see a tree as the list of its nodes.
 #![tactic(auto)]
 
-mod build;
+mod ends;
+mod fault;
+mod names;
 mod node;
 mod node_set;
+mod order;
+mod resolve;
 mod tree;
 
+pub use fault::TreeFault;
 pub use node::{DOT, HASH, Kind, Name, Node, NodeRows, Recorded, Targets};
 pub use node_set::NodeSet;
-pub use tree::{Tree, TreeFault};
+pub use tree::Tree;

@@ -1,26 +1,13 @@
-ghost use Rattle.std.specs.Prelude.{◌≡◌, ◌↔◌, ◌<◌, ◌^◌, ℕ, IfOk, OnOk, IsTrue, slice_get, length};
-ghost use Rattle.node_tree.specs.Nodes.{IsTree, IsRow, HasNewId, IsFirstBreach, IsBelow, child_of, id_at};
-ghost use Rattle.node_tree.specs.Targets.{target_of};
+ghost use Rattle.std.specs.Prelude.{◌≡◌, ◌↔◌, ◌<◌, ◌^◌, ℕ, IfOk, IfSome, OnOk, IsTrue, slice_get, length};
+ghost use Rattle.node_tree.specs.Nodes.{IsTree, IsRow, HasNewId, IsFirstBreach, IsBelow, child_of, id_at, parent_of};
 
+use crate::ends::subtree_ends;
+use crate::fault::TreeFault;
+use crate::names::{Names, index_children, index_ids};
 use crate::node::{Node, NodeRows};
+use crate::order::first_misplaced;
 use std::alloc::Global;
 use std::marker::Model;
-use thiserror::Error;
-
-/// Why rows are no tree.
-#[derive(Debug, Drop, Error)]
-pub enum TreeFault {
-    /// A row that isn't in its place in document order, or that names an initial child that is no child
-    /// of it or a history default that is no row: the first such row.
-    #[error("row {0} is out of place or names a node that is not there")]
-    NoNode(u32),
-    /// A row whose id an earlier row has: the first such row.
-    #[error("row {0} has the id of an earlier row")]
-    DoubleId(u32),
-    /// Memory ran out.
-    #[error("out of memory")]
-    Memory,
-}
 
 /// The nodes of a machine. Contracts see the list of them in document order, in which a node's number
 /// is its place, counted from 0.
@@ -29,6 +16,9 @@ pub struct Tree {
     nodes: Vec<Node>,
     /// For each node the number after the last node below it.
     ends: Vec<u32>,
+    ids: Names,
+    /// For each node its children by their keys.
+    children: Vec<Names>,
 }
 
 impl Model for Tree {
@@ -41,7 +31,7 @@ impl Model for Tree {
 
     ghost view = { λ tree. tree.nodes.items };
 
-    ghost invariant = { λ tree. AreTables tree.nodes.items tree.ends.items };
+    ghost invariant = { λ tree. AreTables tree.nodes.items tree.ends.items tree.ids tree.children.items };
 }
 
 impl Tree {
@@ -55,13 +45,23 @@ impl Tree {
         ensures ok { OnOk result (IsTree rows) }
 
         // Otherwise the first misplaced row, and only where there is none the first repeated id.
-        ensures no_node { (n : ℕ) → result ≡ Err (TreeFault.NoNode n) → IsFirstBreach (IsRow rows) (length rows) n }
+        ensures no_node { (n : ℕ) → (result ≡ Err (TreeFault.NoNode n)) ↔ IsFirstBreach (IsRow rows) (length rows) n }
         ensures rows_first { (n : ℕ) → result ≡ Err (TreeFault.DoubleId n) → (k : ℕ) → k < length rows → IsRow rows k }
         ensures double_id { (n : ℕ) → result ≡ Err (TreeFault.DoubleId n) → IsFirstBreach (HasNewId rows) (length rows) n }
     {
-        let _ = alloc;
-        let _ = rows;
-        Err(TreeFault::Memory)
+        let nodes = rows.into_vec();
+        if let Some(n) = first_misplaced(&nodes) {
+            return Err(TreeFault::NoNode(n));
+        }
+        let ids = index_ids(alloc, &nodes)?;
+        let ends = subtree_ends(alloc, &nodes)?;
+        let children = index_children(alloc, &nodes)?;
+        Ok(Tree {
+            nodes,
+            ends,
+            ids,
+            children,
+        })
     }
 
     /// How many nodes there are. The clause `tree` says what is known of the nodes of every tree.
@@ -80,6 +80,15 @@ impl Tree {
         &self.nodes[n as usize]
     }
 
+    /// The parent of a node, where it has one.
+    pub(crate) fn parent(&self, n: u32) -> Option<u32>
+        requires { n < length self.now }
+        ensures parent { result ≡ parent_of self.now n }
+        ensures first { IfSome result (λ parent. parent < n) }
+    {
+        self.nodes[n as usize].parent
+    }
+
     /// Whether `low` is a proper descendant of `high`. It costs two comparisons.
     pub fn below(&self, low: u32, high: u32) -> bool
         requires low { low < length self.now }
@@ -87,5 +96,20 @@ impl Tree {
         ensures { IsTrue result ↔ IsBelow self.now low high }
     {
         high < low && low < self.ends[high as usize]
+    }
+
+    /// The first child of a node with this key. It costs a look-up in an ordered map.
+    pub fn child(&self, n: u32, key: &[u8]) -> Option<u32>
+        requires { n < length self.now }
+        ensures { result ≡ child_of self.now n key.now }
+    {
+        self.children[n as usize].get(key).copied()
+    }
+
+    /// The node with this id. It costs a look-up in an ordered map.
+    pub fn by_id(&self, id: &[u8]) -> Option<u32>
+        ensures { result ≡ id_at self.now id.now }
+    {
+        self.ids.get(id).copied()
     }
 }

@@ -1,4 +1,5 @@
-ghost use Rattle.std.specs.Prelude.{◌≡◌, [], ◌∷◌, ◌++◌, length, ◌==◌, IfErr, OnOk, OnErr};
+ghost use Rattle.std.specs.Prelude.{◌≡◌, [], ◌∷◌, ◌++◌, length, ◌==◌, slice_get, IfErr, OnOk, OnErr};
+ghost use Rattle.std.specs.Option.{option_copied};
 
 use std::alloc::Global;
 use std::marker::Model;
@@ -64,6 +65,13 @@ impl<T> Items<T> {
         ensures { result.now ≡ self.now }
     {
         self.items.as_slice()
+    }
+
+    /// The item at a place, if there is one.
+    pub fn get(&self, place: usize) -> Option<&T>
+        ensures { option_copied result ≡ slice_get self.now place }
+    {
+        self.items.get(place)
     }
 
     /// Adds an item at the end. For want of memory it hands the item back.

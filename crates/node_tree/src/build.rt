@@ -1,1 +1,0 @@
-//! The faults of the rows that a tree is built from.

@@ -1,0 +1,27 @@
+//! The outside of an office, as its code sees it: a source of input and a sink for output, each with a
+//! count of its faults, and the same in memory with lists of calls that fail.
+#![tactic(auto)]
+
+mod memory;
+mod streams;
+
+pub use memory::{MemoryLink, MemorySink, MemorySource, MemoryStation};
+pub use streams::{Both, Failed, Got, Sink, Source, Station};
+use xs_data::Items;
+
+/// A list of bytes.
+pub type Bytes = Items<u8>;
+
+/// Where a run of the program ended: its exit status, and the station that it was given.
+#[derive(Drop)]
+pub struct Ended<W> {
+    pub status: u8,
+    pub station: W,
+}
+
+/// One of the two sides of a disk.
+#[derive(Clone, Copy, Debug, PartialEq, Eq)]
+pub enum Side {
+    A,
+    B,
+}
