@@ -1,6 +1,10 @@
-pub mod TreeLemmas
-pub mod SetLemmas
-pub mod PreemptionLemmas
-pub mod MarkLemmas
+pub mod EnteredLemmas
 pub mod EntryLemmas
+pub mod GoalLemmas
 pub mod HistoryLemmas
+pub mod ListLemmas
+pub mod MarkLemmas
+pub mod NextLemmas
+pub mod PreemptionLemmas
+pub mod SetLemmas
+pub mod TreeLemmas

@@ -8,7 +8,7 @@ use Rattle.node_tree.specs.Nodes.{IsTree, IsChild, IsBelow, IsWithin, child, fur
 use Rattle.step_sets.specs.Entries.{LeadsToGoal, HasGoalBelow}
 use Rattle.step_sets.specs.Marks.{AreMarks, Tells}
 use Rattle.step_sets.proofs.SetLemmas.{front_more}
-use Rattle.step_sets.proofs.TreeLemmas.{one_parent, parent_less, below_parent}
+use Rattle.step_sets.proofs.TreeLemmas.{below_parent, child_towards, parent_less}
 
 -- one more mark
 pub AreMarks-set : {F G : ℕ → Type 0} (end : ℕ) (marks : List Bool) (x : ℕ) → x < end → AreMarks F end marks → ((n : ℕ) → G n ↔ (F n ⊎ (n ≡ x))) → AreMarks G end (set marks x true)
@@ -39,13 +39,6 @@ AreMarks-none F end marks each off none = record {
 -- a mark for each of the first i of the list, one step on
 pub AreMarks-more : (end : ℕ) (marks : List Bool) (xs : List ℕ) (i : ℕ) → i < length xs → get_or xs i 0 < end → AreMarks (Contains (take i xs)) end marks → AreMarks (Contains (take (i + 1) xs)) end (set marks (get_or xs i 0) true)
 AreMarks-more end marks xs i inside within table = AreMarks-set end marks (get_or xs i 0) within table (λ n. front_more xs i n inside)
-
--- what is below a node is a child of it or below one
-pub child_towards : (nodes : List Node) (l h : ℕ) → IsBelow nodes l h → (m : ℕ) × IsChild nodes m h × IsWithin nodes l m
-child_towards nodes l h (child low high c) = (low, c, inl refl)
-child_towards nodes l h (further low parent high c b) =
-    let (m, d, w) = child_towards nodes parent high b in
-    (m, d, inr (elim w [ inl e ↦ (let P : ℕ → Type 0 = λ x. IsBelow nodes low x in rw (← e) (child low parent c)) | inr b' ↦ further low parent m c b' ]))
 
 -- a node leads to a goal if it is one or a child of it leads to one
 pub leads_cases : (nodes : List Node) (goals : List ℕ) (n : ℕ) → LeadsToGoal nodes goals n ↔ (Contains goals n ⊎ HasGoalBelow nodes goals n)

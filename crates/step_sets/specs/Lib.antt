@@ -5,6 +5,8 @@ pub mod Exits
 pub mod Goals
 pub mod History
 pub mod Kinds
+pub mod Laws
 pub mod Marks
 pub mod Preemption
 pub mod Sets
+pub mod Statechart

@@ -4,6 +4,7 @@
 mod entries;
 mod exits;
 mod history;
+mod laws;
 mod marks;
 mod nodes;
 mod preemption;
@@ -14,6 +15,10 @@ mod types;
 pub use entries::entry_set;
 pub use exits::exit_set;
 pub use history::record_history;
+pub use laws::{
+    first_configuration_is_legal, history_stays_fit, next_configuration_is_legal,
+    preemption_keeps_apart, records_hold_children_or_leaves,
+};
 pub use node_tree::NodeSet;
 pub use preemption::stays;
 pub use targets::goals;
