@@ -1,7 +1,7 @@
 -- Where targets that do not clash lead under a history that fits.
 use Rattle.std.proofs.Common.{◌≡◌, ◌∙◌, ◌<◌, ◌⊎◌, ℕ, zero, suc, Bool, List, [], ◌∷◌, length, get_or, Option, Some, None, arith, inl, inr, sym, refl, subst, ap}
 use Rattle.std.specs.List.{AllPairs, Contains}
-use Rattle.std.specs.Option.{unwrap_or, option_or, option_to_list}
+use Rattle.std.specs.Option.{IsSomeAnd, unwrap_or, option_or, option_to_list}
 use Rattle.std.proofs.lemmas.Bool.{cases_eq, cases_lt}
 use Rattle.node_tree.specs.declared.node.Kind.{Kind}
 use Rattle.node_tree.specs.declared.node.Kind.TheVariants.{Atomic, Compound, Parallel, Final, Shallow, Deep}
@@ -18,6 +18,27 @@ use Rattle.step_sets.proofs.TreeLemmas.{below_trans, below_within, child_towards
 -- a node of a kind that is no history kind is no history node
 pub not_history_by_kind : (nodes : List Node) (n : ℕ) (kind : Kind) → kind_of nodes n ≡ Some kind → ¬ IsHistoryKind kind → ¬ IsHistory nodes n
 not_history_by_kind nodes n kind of other h = other (rw of at h)
+
+-- whether a node is a history node can be decided
+decide_history_by : (nodes : List Node) (t : ℕ) (kind : Option Kind) → kind_of nodes t ≡ kind → IsHistory nodes t ⊎ ¬ IsHistory nodes t
+decide_history_by nodes t None of = inr (λ h. let k = rw of at h in k)
+decide_history_by nodes t (Some (Shallow default)) of = inl (rw of tt)
+decide_history_by nodes t (Some (Deep default)) of = inl (rw of tt)
+decide_history_by nodes t (Some Atomic) of = inr (λ h. let k = rw of at h in k)
+decide_history_by nodes t (Some (Compound initial)) of = inr (λ h. let k = rw of at h in k)
+decide_history_by nodes t (Some Parallel) of = inr (λ h. let k = rw of at h in k)
+decide_history_by nodes t (Some Final) of = inr (λ h. let k = rw of at h in k)
+
+pub decide_history : (nodes : List Node) (t : ℕ) → IsHistory nodes t ⊎ ¬ IsHistory nodes t
+decide_history nodes t = decide_history_by nodes t (kind_of nodes t) refl
+
+-- the kind of a history node
+history_kind_by : (nodes : List Node) (h : ℕ) (kind : Option Kind) → kind_of nodes h ≡ kind → IsSomeAnd kind IsHistoryKind → (k : Kind) × (kind_of nodes h ≡ Some k) × IsHistoryKind k
+history_kind_by nodes h None of history = absurd history
+history_kind_by nodes h (Some k) of history = (k, of, history)
+
+pub history_kind : (nodes : List Node) (h : ℕ) → IsHistory nodes h → (k : Kind) × (kind_of nodes h ≡ Some k) × IsHistoryKind k
+history_kind nodes h history = history_kind_by nodes h (kind_of nodes h) refl history
 
 -- a node with a child is no history node
 pub parent_not_history : (nodes : List Node) → IsStatechart nodes → (n p : ℕ) → IsChild nodes n p → ¬ IsHistory nodes p
@@ -147,21 +168,9 @@ module _ (nodes : List Node) (tree : IsTree nodes) (chart : IsStatechart nodes) 
   target_leads history t top fit counts = target_leads_by history t top (kind_of nodes t) refl fit counts
 
   -- some node counts for each target
-  decide_history_by : (t : ℕ) (kind : Option Kind) → kind_of nodes t ≡ kind → IsHistory nodes t ⊎ ¬ IsHistory nodes t
-  decide_history_by t None of = inr (λ h. let k = rw of at h in k)
-  decide_history_by t (Some (Shallow default)) of = inl (rw of tt)
-  decide_history_by t (Some (Deep default)) of = inl (rw of tt)
-  decide_history_by t (Some Atomic) of = inr (λ h. let k = rw of at h in k)
-  decide_history_by t (Some (Compound initial)) of = inr (λ h. let k = rw of at h in k)
-  decide_history_by t (Some Parallel) of = inr (λ h. let k = rw of at h in k)
-  decide_history_by t (Some Final) of = inr (λ h. let k = rw of at h in k)
-
-  pub decide_history : (t : ℕ) → IsHistory nodes t ⊎ ¬ IsHistory nodes t
-  decide_history t = decide_history_by t (kind_of nodes t) refl
-
   some_counts : (t : ℕ) → (top : ℕ) × CountsFor nodes t top
   some_counts t =
-      elim (decide_history t) [
+      elim (decide_history nodes t) [
         inl history ↦ (let (p, c) = has_parent t history in (p, inr (history, c)))
       | inr plain ↦ (t, inl (refl, plain)) ]
     where

@@ -2,6 +2,7 @@ pub mod EnteredLemmas
 pub mod EntryLemmas
 pub mod GoalLemmas
 pub mod HistoryLemmas
+pub mod LawLemmas
 pub mod ListLemmas
 pub mod MarkLemmas
 pub mod NextLemmas
