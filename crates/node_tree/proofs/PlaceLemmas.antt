@@ -1,6 +1,6 @@
 -- The first place in a list at which a test passes, as the list grows.
-use Rattle.std.proofs.Common.{◌≡◌, ◌<◌, ◌≤◌, ◌+◌, ℕ, suc, Bool, true, false, cond, List, [], ◌∷◌, ◌++◌, length, take, get_or, ◌&&◌, refl, ◌∙◌, ap, arith}
-use Rattle.std.specs.Prelude.{Option, Some, None, is_none, nat_lt}
+use Rattle.std.proofs.Common.{sym, ◌≡◌, ◌<◌, ◌≤◌, ◌+◌, ℕ, suc, Bool, true, false, cond, List, [], ◌∷◌, ◌++◌, length, take, get_or, ◌&&◌, refl, ◌∙◌, ap, arith}
+use Rattle.std.specs.Prelude.{Option, Some, None, IfSome, is_none, nat_lt}
 use Rattle.std.specs.List.{position, position_from, position_or_len}
 use Rattle.std.proofs.lemmas.Iterator.Adapters.{position_from-zero}
 use Rattle.std.proofs.lemmas.List.{take_more, length-take-le}
@@ -45,3 +45,8 @@ pub position_none : {X : Type 0} (p : X → Bool) (xs : List X) → position p x
 position_none p xs h k d inside =
     let past : length xs ≤ position_or_len p xs = ltb-false _ _ (none_from (nat_lt (position_or_len p xs) (length xs)) (position_or_len p xs) h) in
     fails_before_first p xs k d (omega arith)
+
+-- what is found, as a clause says it
+pub found_inside : {X : Type 0} (p : X → Bool) (xs : List X) (o : Option ℕ) → o ≡ position p xs → IfSome o (λ n. n < length xs)
+found_inside p xs None is = tt
+found_inside p xs (Some n) is = position_inside p xs n (sym is)

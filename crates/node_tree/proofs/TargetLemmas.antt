@@ -1,9 +1,10 @@
 -- Keys between dots, and the longest id of a text.
-use Rattle.std.proofs.Common.{◌≡◌, ◌<◌, ◌≤◌, ◌+◌, ◌-◌, ℕ, zero, suc, Bool, true, false, List, [], ◌∷◌, length, take, drop, ◌&&◌, arith, refl, ap, inl, inr}
+use Rattle.std.proofs.Common.{◌≡◌, ◌<◌, ◌≤◌, ◌+◌, ◌-◌, ℕ, zero, suc, Bool, true, false, List, [], ◌∷◌, length, take, drop, cond, ◌++◌, ◌&&◌, arith, refl, sym, ◌∙◌, ap, length-append, inl, inr}
 use Rattle.std.specs.Prelude.{Option, Some, None, nat_eq, is_some}
 use Rattle.std.specs.List.{position, position_or_len}
 use Rattle.std.proofs.lemmas.List.Splits.{slice_split_first, slice_split_none}
-use Rattle.std.proofs.lemmas.List.{take_all, length-drop}
+use Rattle.std.proofs.lemmas.List.{take_all, take_at, take-append-drop, length-drop, length-take-le}
+use Rattle.std.proofs.Math.Seq.{drop-append_seam}
 use Rattle.std.proofs.lemmas.List.Quantifiers.{position-Some}
 use Rattle.std.proofs.lemmas.List.Sums.{position_or_len_is}
 use Rattle.std.proofs.Math.Nat.{eq-or-lt_of_le}
@@ -12,8 +13,8 @@ use Rattle.std.specs.Str.{bytes_eq}
 use Rattle.node_tree.specs.declared.node.Node.{Node}
 use Rattle.node_tree.specs.declared.node.TheConstants.{DOT}
 use Rattle.node_tree.proofs.PlaceLemmas.{position_inside, position_none}
-use Rattle.node_tree.specs.Targets.{keys_of, keys_after_dot, down, largest, id_front, from_id}
-use Rattle.node_tree.specs.Nodes.{child_of}
+use Rattle.node_tree.specs.Targets.{keys_of, keys_after_dot, down, largest, ends_key, id_front, from_id, BeginsWithId, BeginsWithLongestId}
+use Rattle.node_tree.specs.Nodes.{child_of, id_at}
 
 -- the rest of a slice, as a range without an end gives it
 pub take-rest : {X : Type 0} (k : ℕ) (xs : List X) → take (length xs - k) (drop k xs) ≡ drop k xs
@@ -73,3 +74,36 @@ from_id-found nodes text len n upto found above =
 
 pub from_id-none : (nodes : List Node) (text : List ℕ) → ((k : ℕ) → k ≤ length text → is_some (id_front nodes text k) ≡ false) → from_id nodes text ≡ None
 from_id-none nodes text none = rw (largest_none (λ k. is_some (id_front nodes text k)) (length text) none) refl
+
+chosen : (b : Bool) (o : Option ℕ) (m : ℕ) → cond b o None ≡ Some m → (b ≡ true) × (o ≡ Some m)
+chosen true o m h = (refl, h)
+chosen false o m h = cc
+
+none_unless : (o : Option ℕ) → ((m : ℕ) → o ≡ Some m → ⊥) → is_some o ≡ false
+none_unless None h = refl
+none_unless (Some m) h = absurd (h m refl)
+
+-- the fronts that are ids are the ids that a text begins with
+front_begins : (nodes : List Node) (text : List ℕ) (k m : ℕ) → id_front nodes text k ≡ Some m → BeginsWithId nodes text (take k text) (drop k text) m
+front_begins nodes text k m is =
+    let parts = chosen (ends_key (drop k text)) (id_at nodes (take k text)) m is in
+    record { whole = sym (take-append-drop k text); ends = parts.0; found = parts.1 }
+
+front_of : (nodes : List Node) (id rest : List ℕ) (n : ℕ) → ends_key rest ≡ true → id_at nodes id ≡ Some n → id_front nodes (id ++ rest) (length id) ≡ Some n
+front_of nodes id rest n ends found = rw (drop-append_seam id rest, take_at id rest (length id) refl, ends) found
+
+pub longest_id_leads : (nodes : List Node) (text id rest : List ℕ) (n : ℕ) → BeginsWithLongestId nodes text id rest n → from_id nodes text ≡ down nodes (Some n) (keys_after_dot rest)
+longest_id_leads nodes text id rest n h =
+    let whole = h.begins.whole in
+    let front : id_front nodes text (length id) ≡ Some n = ap (λ t. id_front nodes t (length id)) whole ∙ front_of nodes id rest n h.begins.ends h.begins.found in
+    let upto : length id ≤ length text = omega (arith, length-append id rest, ap length whole) in
+    from_id-found nodes text (length id) n upto front
+    (λ k after within. none_unless (id_front nodes text k) (λ m is.
+    let bound = h.longest (take k text) (drop k text) m (front_begins nodes text k m is) in
+    let len = length-take-le k text within in
+    absurd (omega arith)))
+    ∙ ap (λ t. down nodes (Some n) (keys_after_dot (drop (length id) t))) whole
+    ∙ ap (λ r. down nodes (Some n) (keys_after_dot r)) (drop-append_seam id rest)
+
+pub no_id_leads_nowhere : (nodes : List Node) (text : List ℕ) → ((id rest : List ℕ) (n : ℕ) → BeginsWithId nodes text id rest n → ⊥) → from_id nodes text ≡ None
+no_id_leads_nowhere nodes text h = from_id-none nodes text (λ k within. none_unless (id_front nodes text k) (λ m is. h (take k text) (drop k text) m (front_begins nodes text k m is)))

@@ -178,3 +178,19 @@ goes_on nodes n at end node placed after inside below is from ends =
     let (parent, named, upto) = some_and node.parent (λ parent. n ≤ parent) from in
     let is_child : IsChild nodes at parent = read_parent nodes at node inside ∙ ap (λ (x : Node). x.parent) (sym is) ∙ named in
     below_more_rows nodes n at end parent after below is_child (above_first nodes (length nodes) placed at parent inside (child at parent is_child)) upto ends
+
+-- what is below something is one of the nodes
+pub below_inside : (nodes : List Node) (low high : ℕ) → IsBelow nodes low high → low < length nodes
+below_inside nodes low high (child _ _ is) = child_inside nodes low high is
+below_inside nodes low high (further _ parent _ is rest) = child_inside nodes low parent is
+
+tree_placed : (nodes : List Node) → IsTree nodes → ArePlaced nodes (length nodes)
+tree_placed nodes tree n inside = (tree.rows n inside).placed
+
+pub ancestors_first : (nodes : List Node) → IsTree nodes → (low high : ℕ) → IsBelow nodes low high → high < low
+ancestors_first nodes tree low high below = above_first nodes (length nodes) (tree_placed nodes tree) low high (below_inside nodes low high below) below
+
+pub subtrees_are_runs : (nodes : List Node) → IsTree nodes → (low high between : ℕ) → IsBelow nodes low high → high < between → between < low → IsBelow nodes between high
+subtrees_are_runs nodes tree low high between below after before =
+    let inside = below_inside nodes low high below in
+    below_between nodes low (λ k upto. tree_placed nodes tree k (omega arith)) high below between after (omega arith)

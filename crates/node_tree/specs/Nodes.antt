@@ -85,3 +85,11 @@ id_at nodes id = position (λ node. bytes_eq node.id id) nodes
 -- the first child of a node with this key
 abbrev pub child_of : List Node → ℕ → List ℕ → Option ℕ
 child_of nodes n key = position (λ node. option_eq nat_eq node.parent (Some n) && bytes_eq node.key key) nodes
+
+-- whatever a node is below stands before it
+abbrev pub AncestorsFirst : Type 0
+AncestorsFirst = (nodes : List Node) → IsTree nodes → (low high : ℕ) → IsBelow nodes low high → high < low
+
+-- the rows between a node and one below it are below it
+abbrev pub SubtreesAreRuns : Type 0
+SubtreesAreRuns = (nodes : List Node) → IsTree nodes → (low high between : ℕ) → IsBelow nodes low high → high < between → between < low → IsBelow nodes between high

@@ -1,5 +1,5 @@
 -- What a target text leads to: `#id`, `#id.k.l`, `.k.l` and `k.l`.
-use Rattle.std.specs.Prelude.{◌==◌, ℕ, zero, suc, Bool, true, List, [], ◌∷◌, length, take, drop, if◌then◌else◌, Option, Some, None, is_some}
+use Rattle.std.specs.Prelude.{◌≡◌, ◌≤◌, ◌==◌, ◌++◌, IsTrue, ℕ, zero, suc, Bool, true, List, [], ◌∷◌, length, take, drop, if◌then◌else◌, Option, Some, None, is_some}
 use Rattle.std.specs.Option.{option_and_then}
 use Rattle.std.specs.List.{slice_split}
 use Rattle.node_tree.specs.declared.node.Node.{Node}
@@ -47,3 +47,22 @@ target_of nodes source (b ∷ bs) =
     if b == HASH then from_id nodes bs
     else if b == DOT then down nodes (Some source) (keys_of bs)
     else down nodes (parent_of nodes source) (keys_of (b ∷ bs))
+
+-- a text is the id of a node and a rest that is empty or begins with a dot
+pub record BeginsWithId (nodes : List Node) (text id rest : List ℕ) (n : ℕ) : Type 0 where
+  pub whole : text ≡ id ++ rest
+  pub ends : IsTrue (ends_key rest)
+  pub found : id_at nodes id ≡ Some n
+
+-- no longer id is one that the text begins with
+pub record BeginsWithLongestId (nodes : List Node) (text id rest : List ℕ) (n : ℕ) : Type 0 where
+  pub begins : BeginsWithId nodes text id rest n
+  pub longest : (other more : List ℕ) (m : ℕ) → BeginsWithId nodes text other more m → length other ≤ length id
+
+-- `#` and a text lead down from the longest id that the text begins with, whatever the source
+abbrev pub LongestIdLeads : Type 0
+LongestIdLeads = (nodes : List Node) (source : ℕ) (text id rest : List ℕ) (n : ℕ) → BeginsWithLongestId nodes text id rest n → target_of nodes source (HASH ∷ text) ≡ down nodes (Some n) (keys_after_dot rest)
+
+-- where a text begins with no id, `#` and the text lead nowhere
+abbrev pub NoIdLeadsNowhere : Type 0
+NoIdLeadsNowhere = (nodes : List Node) (source : ℕ) (text : List ℕ) → ((id rest : List ℕ) (n : ℕ) → BeginsWithId nodes text id rest n → ⊥) → target_of nodes source (HASH ∷ text) ≡ None

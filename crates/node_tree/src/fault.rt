@@ -2,7 +2,7 @@ use std::alloc::AllocError;
 use thiserror::Error;
 
 /// Why rows are no tree.
-#[derive(Debug, Drop, Error)]
+#[derive(Clone, Copy, Debug, PartialEq, Eq, Error)]
 pub enum TreeFault {
     /// A row that isn't in its place in document order, or that names an initial child that is no child
     /// of it or a history default that is no row: the first such row.

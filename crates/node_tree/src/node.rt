@@ -21,7 +21,7 @@ pub const DOT: u8 = b'.';
 
 /// What a node is in the sense of a statechart. A node is named by its number: its place in document
 /// order, counted from 0.
-#[derive(Debug, Drop)]
+#[derive(Clone, Copy, Debug, PartialEq, Eq)]
 pub enum Kind {
     /// A leaf that is not final.
     Atomic,
@@ -40,6 +40,7 @@ pub enum Kind {
 /// One node of a machine.
 #[derive(Debug, Drop)]
 pub struct Node {
+    /// The root has none.
     pub parent: Option<u32>,
     pub kind: Kind,
     /// What the node is called among its siblings.

@@ -27,7 +27,8 @@ impl Model for NodeSet {
 }
 
 impl NodeSet {
-    /// The set of these nodes. It costs a copy of the list.
+    /// The set of these nodes. It costs a copy of the list, and needs the tree only to say which numbers
+    /// are nodes.
     pub fn of(alloc: Global, tree: &Tree, nodes: &[u32]) -> Result<NodeSet, AllocError>
         requires rising { IsStrictlyIncreasing nodes.now }
         requires of_tree { AreNodes tree.now nodes.now }

@@ -53,9 +53,10 @@ fn has_names(nodes: &[Node], n: u32) -> bool
     requires inside { n < length nodes.now }
     ensures { IsTrue result ↔ HasNames nodes.now n }
 {
-    match &nodes[n as usize].kind {
-        Kind::Compound { initial } => is_child(nodes, *initial, n),
-        Kind::Shallow { default } | Kind::Deep { default } => is_inside(nodes, *default),
+    let kind = nodes[n as usize].kind;
+    match kind {
+        Kind::Compound { initial } => is_child(nodes, initial, n),
+        Kind::Shallow { default } | Kind::Deep { default } => is_inside(nodes, default),
         Kind::Atomic | Kind::Parallel | Kind::Final => true,
     }
 }

@@ -14,7 +14,8 @@ impl Tree {
     /// parent, of which the root has none. It costs a look-up for each dot.
     pub fn resolve(&self, source: u32, target: &[u8]) -> Option<u32>
         requires { source < length self.now }
-        ensures { result ≡ target_of self.now source target.now }
+        ensures target { result ≡ target_of self.now source target.now }
+        ensures inside { IfSome result (λ target. target < length self.now) }
     {
         match target {
             [HASH, text @ ..] => self.from_id(text),
@@ -26,7 +27,8 @@ impl Tree {
     /// Down from the parent of a node by keys with dots between them.
     fn down_beside(&self, source: u32, keys: &[u8]) -> Option<u32>
         requires { source < length self.now }
-        ensures { result ≡ down self.now (parent_of self.now source) (keys_of keys.now) }
+        ensures led { result ≡ down self.now (parent_of self.now source) (keys_of keys.now) }
+        ensures inside { IfSome result (λ n. n < length self.now) }
     {
         match self.parent(source) {
             Some(parent) => self.down(parent, keys),
@@ -36,7 +38,8 @@ impl Tree {
 
     /// Down from the node under the longest id that ends the text or stands before a dot.
     fn from_id(&self, text: &[u8]) -> Option<u32>
-        ensures { result ≡ from_id self.now text.now }
+        ensures led { result ≡ from_id self.now text.now }
+        ensures inside { IfSome result (λ n. n < length self.now) }
     {
         for len in (0..text.len() + 1).rev() {
             if let Some(n) = self.id_front(text, len) {
@@ -49,7 +52,8 @@ impl Tree {
     /// The node whose id is the first bytes of a text, where they end the text or stand before a dot.
     fn id_front(&self, text: &[u8], len: usize) -> Option<u32>
         requires { len ≤ length text.now }
-        ensures { result ≡ id_front self.now text.now len }
+        ensures node { result ≡ id_front self.now text.now len }
+        ensures inside { IfSome result (λ n. n < length self.now) }
     {
         if ends_key(text, len) {
             self.by_id(&text[..len])
@@ -61,7 +65,8 @@ impl Tree {
     /// Down from a node by the keys of a text that is empty or begins with a dot.
     fn down_after(&self, from: u32, text: &[u8]) -> Option<u32>
         requires { from < length self.now }
-        ensures { result ≡ down self.now (Some from) (keys_after_dot text.now) }
+        ensures led { result ≡ down self.now (Some from) (keys_after_dot text.now) }
+        ensures inside { IfSome result (λ n. n < length self.now) }
     {
         match text {
             [] => Some(from),
@@ -72,7 +77,8 @@ impl Tree {
     /// Down from a node by keys with dots between them.
     fn down(&self, from: u32, keys: &[u8]) -> Option<u32>
         requires { from < length self.now }
-        ensures { result ≡ down self.now (Some from) (keys_of keys.now) }
+        ensures led { result ≡ down self.now (Some from) (keys_of keys.now) }
+        ensures inside { IfSome result (λ n. n < length self.now) }
     {
         let mut at = from;
         let mut rest = keys;

@@ -101,14 +101,16 @@ impl Tree {
     /// The first child of a node with this key. It costs a look-up in an ordered map.
     pub fn child(&self, n: u32, key: &[u8]) -> Option<u32>
         requires { n < length self.now }
-        ensures { result ≡ child_of self.now n key.now }
+        ensures child { result ≡ child_of self.now n key.now }
+        ensures inside { IfSome result (λ child. child < length self.now) }
     {
         self.children[n as usize].get(key).copied()
     }
 
     /// The node with this id. It costs a look-up in an ordered map.
     pub fn by_id(&self, id: &[u8]) -> Option<u32>
-        ensures { result ≡ id_at self.now id.now }
+        ensures node { result ≡ id_at self.now id.now }
+        ensures inside { IfSome result (λ node. node < length self.now) }
     {
         self.ids.get(id).copied()
     }
