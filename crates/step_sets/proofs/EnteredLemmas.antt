@@ -1,14 +1,13 @@
 -- What is entered below one domain, towards goals that are entered together.
-use Rattle.std.proofs.Common.{◌≡◌, ◌<◌, ◌⊎◌, ℕ, List, [], length, Some, arith, inl, inr, sym, subst, refl}
-use Rattle.std.specs.List.{Contains}
+use Rattle.std.proofs.Common.{◌≡◌, ◌<◌, ◌⊎◌, ℕ, List, length, Some, inl, inr, sym, subst, refl}
 use Rattle.node_tree.specs.declared.node.Kind.TheVariants.{Compound, Parallel}
 use Rattle.node_tree.specs.declared.node.Node.{Node as NodeRow}
-use Rattle.node_tree.specs.Nodes.{IsTree, IsBelow, IsChild, IsWithin, child, further}
+use Rattle.node_tree.specs.Nodes.{IsTree, IsBelow, IsChild, child, further}
 use Rattle.step_sets.specs.declared.types.Domain.{Domain}
 use Rattle.step_sets.specs.declared.types.Domain.TheVariants.{Node, Whole}
-use Rattle.step_sets.specs.Configuration.{HasAllRegions, HasOneChild, IsLegal}
+use Rattle.step_sets.specs.Configuration.{HasAllRegions, HasOneChild}
 use Rattle.step_sets.specs.Domains.{IsUnder}
-use Rattle.step_sets.specs.Entries.{CanBeEntered, HasGoalBelow, IsEntered, LeadsToGoal, Opens, towards_goal, region, initial, root, as_domain, as_entered}
+use Rattle.step_sets.specs.Entries.{HasGoalBelow, IsEntered, LeadsToGoal, Opens, towards_goal, region, initial, root, as_domain, as_entered}
 use Rattle.step_sets.specs.Kinds.{kind_of, IsHistory}
 use Rattle.step_sets.specs.Statechart.{IsStatechart}
 use Rattle.step_sets.proofs.EntryLemmas.{under_inside}

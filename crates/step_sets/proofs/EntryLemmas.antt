@@ -1,13 +1,13 @@
 -- How a pass over the nodes in document order finds those that are entered.
-use Rattle.std.proofs.Common.{◌≡◌, ◌↔◌, ◌∙◌, ◌<◌, ◌≤◌, ◌+◌, ◌⊎◌, ℕ, zero, suc, Bool, true, false, List, [], ◌∷◌, ◌++◌, length, get_or, set, arith, inl, inr, sym, refl, IsTrue}
+use Rattle.std.proofs.Common.{◌≡◌, ◌↔◌, ◌<◌, ◌≤◌, ◌+◌, ◌⊎◌, ℕ, Bool, true, List, [], ◌∷◌, ◌++◌, length, set, arith, inl, inr, refl}
 use Rattle.std.specs.List.{Contains}
-use Rattle.std.proofs.lemmas.Bool.{cases_eq, cases_lt}
+use Rattle.std.proofs.lemmas.Bool.{cases_lt}
 use Rattle.node_tree.specs.declared.node.Node.{Node as NodeRow}
-use Rattle.node_tree.specs.Nodes.{IsTree, IsChild}
+use Rattle.node_tree.specs.Nodes.{IsTree}
 use Rattle.step_sets.specs.declared.types.Domain.{Domain}
 use Rattle.step_sets.specs.declared.types.Domain.TheVariants.{Node, Whole}
 use Rattle.step_sets.specs.Domains.{IsUnder}
-use Rattle.step_sets.specs.Entries.{CanBeEntered, HasGoalBelow, IsEntered, Opens, towards_goal, region, initial, root, as_domain, as_entered}
+use Rattle.step_sets.specs.Entries.{HasGoalBelow, IsEntered, Opens, towards_goal, region, initial, root, as_domain, as_entered}
 use Rattle.step_sets.specs.Marks.{AreMarks, IsEnteredByMarks}
 use Rattle.step_sets.specs.Sets.{IsSetOf}
 use Rattle.step_sets.proofs.MarkLemmas.{AreMarks-set, AreMarks-same, leads_cases}
@@ -104,7 +104,7 @@ module _ (nodes : List NodeRow) (goals : List ℕ) (domain : Domain) where
   entries_same i entries absent set = IsSetOf-same entries set (λ n. entered_same i n absent)
 
   -- each entered node is one of the tree
-  entered_inside : IsTree nodes → (n : ℕ) → IsEntered nodes goals domain n → n < length nodes
+  pub entered_inside : IsTree nodes → (n : ℕ) → IsEntered nodes goals domain n → n < length nodes
   entered_inside tree n (root whole) = tree.some
   entered_inside tree n (towards_goal can leads) = under_inside nodes domain n can.0
   entered_inside tree n (region can c parallel opens) = under_inside nodes domain n can.0

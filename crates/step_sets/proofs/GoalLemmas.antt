@@ -1,15 +1,15 @@
 -- Where targets that do not clash lead under a history that fits.
-use Rattle.std.proofs.Common.{◌≡◌, ◌∙◌, ◌<◌, ◌⊎◌, ℕ, zero, suc, Bool, List, [], ◌∷◌, length, get_or, Option, Some, None, arith, inl, inr, sym, refl, subst, ap}
-use Rattle.std.specs.List.{AllPairs, Contains}
+use Rattle.std.proofs.Common.{◌≡◌, ◌∙◌, ◌⊎◌, ℕ, zero, suc, List, [], ◌∷◌, get_or, Option, Some, None, arith, inl, inr, sym, refl, subst}
+use Rattle.std.specs.List.{Contains}
 use Rattle.std.specs.Option.{IsSomeAnd, unwrap_or, option_or, option_to_list}
-use Rattle.std.proofs.lemmas.Bool.{cases_eq, cases_lt}
+use Rattle.std.proofs.lemmas.Bool.{cases_lt}
 use Rattle.node_tree.specs.declared.node.Kind.{Kind}
 use Rattle.node_tree.specs.declared.node.Kind.TheVariants.{Atomic, Compound, Parallel, Final, Shallow, Deep}
 use Rattle.node_tree.specs.declared.node.Node.{Node}
 use Rattle.node_tree.specs.Nodes.{IsTree, IsBelow, IsChild, IsWithin, child, further, parent_of}
 use Rattle.step_sets.specs.Configuration.{IsLegal}
 use Rattle.step_sets.specs.Goals.{History, record_of, recorded_or, goals_at, goals_of}
-use Rattle.step_sets.specs.History.{CanBeRemembered, IsRemembered}
+use Rattle.step_sets.specs.History.{CanBeRemembered}
 use Rattle.step_sets.specs.Kinds.{kind_of, IsHistory, IsHistoryKind}
 use Rattle.step_sets.specs.Statechart.{AreOrthogonal, CountsFor, DoNotClash, HasDefault, IsFitHistory, IsFitRecord, IsParentKind, IsStatechart}
 use Rattle.step_sets.proofs.ListLemmas.{Contains-flat_map, Contains-cons_cases}

@@ -1,12 +1,12 @@
 -- Records of a history, looked up by their nodes.
-use Rattle.std.proofs.Common.{◌≡◌, ◌≢◌, ◌∙◌, ◌==◌, ◌<◌, ◌≤◌, ◌+◌, ◌⊎◌, ℕ, zero, suc, Bool, true, false, cond, List, [], ◌∷◌, ◌++◌, length, get_or, set, take, drop, map, Option, Some, None, arith, inl, inr, sym, refl, ap}
-use Rattle.std.specs.List.{Contains, All}
+use Rattle.std.proofs.Common.{◌≡◌, ◌≢◌, ◌∙◌, ◌<◌, ◌≤◌, ◌+◌, ℕ, List, [], ◌∷◌, ◌++◌, length, get_or, drop, Option, Some, None, arith, inl, inr, sym, refl, subst}
+use Rattle.std.specs.List.{All}
 use Rattle.std.specs.List.Sorted.{IsStrictlyIncreasing}
-use Rattle.std.specs.Option.{IfSome, option_map}
+use Rattle.std.specs.Option.{option_map}
 use Rattle.std.specs.Prelude.{slice_get}
 use Rattle.std.proofs.lemmas.Bool.{cases_eq, cases_lt}
 use Rattle.std.proofs.lemmas.Bool.Decides.{nat_tests}
-use Rattle.std.proofs.lemmas.List.{length-set, get_or-set_same, get_or-set_other, drop_more, map_push}
+use Rattle.std.proofs.lemmas.List.{map_push}
 use Rattle.std.proofs.lemmas.List.Elements.{All-head, All-tail, All-push, All-weaker, All-map, All-contains}
 use Rattle.node_tree.specs.declared.node.Kind.{Kind}
 use Rattle.node_tree.specs.declared.node.Node.{Node}
@@ -60,6 +60,7 @@ pub record ArePlacesFrom (end : ℕ) (history : History) (i : ℕ) (places : Lis
 pub record AreRecorded (nodes : List Node) (active exits : List ℕ) (old : History) (i : ℕ) (records : History) : Type 0 where
   pub in_order : IsStrictlyIncreasing (history_nodes records)
   pub below : All (λ (r : Record). r.0 < i) records
+  pub named : NamesNodes nodes records
   pub each : (h : ℕ) → h < i → IsNewRecord nodes active exits old h (record_of records h)
 
 module _ (nodes : List Node) (active exits : List ℕ) (old : History) where
@@ -67,12 +68,13 @@ module _ (nodes : List Node) (active exits : List ℕ) (old : History) where
   later i records below = All-weaker (λ (r : Record). r.0 < i) (λ (r : Record). r.0 < i + 1) (λ r h. omega arith) records below
 
   -- the next node has a record
-  pub AreRecorded-push : (i : ℕ) (record' : List ℕ) (records : History) → IsNewRecord nodes active exits old i (Some record') → AreRecorded nodes active exits old i records → AreRecorded nodes active exits old (i + 1) (records ++ (i, record') ∷ [])
-  AreRecorded-push i record' records new were = record {
+  pub AreRecorded-push : (i : ℕ) (record' : List ℕ) (records : History) → i < length nodes → AreNodes nodes record' → IsNewRecord nodes active exits old i (Some record') → AreRecorded nodes active exits old i records → AreRecorded nodes active exits old (i + 1) (records ++ (i, record') ∷ [])
+  AreRecorded-push i record' records inside of-tree new were = record {
     in_order = rw (map_push (λ (r : Record). r.0) records (i, record'))
       (IsStrictlyIncreasing-push (history_nodes records) i were.in_order
       (λ n has. All-contains (λ n. n < i) (history_nodes records) n (All-map (λ n. n < i) (λ (r : Record). r.0) records were.below) has));
     below = All-push (λ (r : Record). r.0 < i + 1) records (i, record') (later i records were.below) (omega arith);
+    named = All-push (λ (r : Record). (r.0 < length nodes) × AreNodes nodes r.1) records (i, record') were.named (inside, of-tree);
     each = λ h before. elim (cases_lt h i) [
       inl lt ↦ rw (record_of-push_other records (i, record') h (omega arith)) (were.each h lt)
     | inr ge ↦ (let same : h ≡ i = omega arith in
@@ -84,6 +86,7 @@ module _ (nodes : List Node) (active exits : List ℕ) (old : History) where
   AreRecorded-skip i records new were = record {
     in_order = were.in_order;
     below = later i records were.below;
+    named = were.named;
     each = λ h before. elim (cases_lt h i) [
       inl lt ↦ were.each h lt
     | inr ge ↦ (let same : h ≡ i = omega arith in
@@ -110,3 +113,16 @@ pub kind_read : (nodes : List Node) (n : ℕ) (node : Node) (kind : Kind) → sl
 kind_read nodes n node kind is of =
     let at : option_map (λ (row : Node). row.kind) (Some node) ≡ Some kind = rw is at of in
     cc
+
+-- a record of a history that names nodes of the tree does so
+pub record_of-named : (nodes : List Node) (rs : History) (h : ℕ) (list : List ℕ) → NamesNodes nodes rs → record_of rs h ≡ Some list → AreNodes nodes list
+record_of-named nodes [] h list named is = absurd cc
+record_of-named nodes (r ∷ rest) h list named is =
+    elim (cases_eq r.0 h) [
+      inl same ↦
+        (let here = record_of-here r rest h same in
+        let e : r.1 ≡ list = cc in
+        let P : List ℕ → Type 0 = λ xs. AreNodes nodes xs in
+        subst P e (All-head (λ (r : Record). (r.0 < length nodes) × AreNodes nodes r.1) r rest named).1)
+    | inr apart ↦
+        record_of-named nodes rest h list (All-tail (λ (r : Record). (r.0 < length nodes) × AreNodes nodes r.1) r rest named) (sym (record_of-past r rest h apart) ∙ is) ]

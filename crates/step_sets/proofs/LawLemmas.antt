@@ -1,5 +1,5 @@
 -- What follows from preemption and from the recorded history.
-use Rattle.std.proofs.Common.{◌≡◌, ◌<◌, ◌⊎◌, ◌∙◌, ℕ, Bool, true, false, MatchBool, List, [], length, get_or, Option, Some, None, arith, inl, inr, sym, refl, subst}
+use Rattle.std.proofs.Common.{◌≡◌, ◌∙◌, ℕ, Bool, true, false, MatchBool, List, [], get_or, Option, Some, None, arith, inl, inr, sym, refl, subst}
 use Rattle.std.specs.List.{All, Contains}
 use Rattle.std.specs.Option.{IsSomeAnd}
 use Rattle.std.proofs.lemmas.Bool.{cases_eq, cases_lt}
@@ -8,11 +8,11 @@ use Rattle.std.proofs.lemmas.List.Elements.{All-contains, Contains-get_or}
 use Rattle.node_tree.specs.declared.node.Kind.{Kind}
 use Rattle.node_tree.specs.declared.node.Kind.TheVariants.{Shallow, Deep}
 use Rattle.node_tree.specs.declared.node.Node.{Node}
-use Rattle.node_tree.specs.Nodes.{IsBelow, IsChild, parent_of}
+use Rattle.node_tree.specs.Nodes.{IsChild, parent_of}
 use Rattle.step_sets.specs.Configuration.{IsLegal}
 use Rattle.step_sets.specs.Goals.{History, record_of}
 use Rattle.step_sets.specs.History.{CanBeRemembered, IsRecordedNow, IsRemembered, RecordsHistory}
-use Rattle.step_sets.specs.Kinds.{kind_of, IsHistoryKind, IsLeaf}
+use Rattle.step_sets.specs.Kinds.{kind_of, IsHistoryKind}
 use Rattle.step_sets.specs.Laws.{AreApart, HoldsChildrenOrLeaves}
 use Rattle.step_sets.specs.Preemption.{IsPreempted, KeepsUnpreempted, Meets}
 use Rattle.step_sets.specs.Sets.{IsSetOf}

@@ -8,4 +8,5 @@ pub mod MarkLemmas
 pub mod NextLemmas
 pub mod PreemptionLemmas
 pub mod SetLemmas
+pub mod TargetLemmas
 pub mod TreeLemmas

@@ -1,12 +1,12 @@
 -- Tables of truth values, and which nodes lead to a goal.
-use Rattle.std.proofs.Common.{◌≡◌, ◌↔◌, ◌∙◌, ◌<◌, ◌≤◌, ◌+◌, ◌⊎◌, ℕ, zero, suc, Bool, true, false, List, [], length, get_or, set, take, arith, inl, inr, sym, refl, ap, IsTrue}
+use Rattle.std.proofs.Common.{◌≡◌, ◌↔◌, ◌∙◌, ◌<◌, ◌≤◌, ◌+◌, ◌⊎◌, ℕ, Bool, true, false, List, length, get_or, set, take, arith, inl, inr, sym, refl, IsTrue}
 use Rattle.std.specs.List.{Contains}
 use Rattle.std.proofs.lemmas.Bool.{cases_eq, cases_lt}
-use Rattle.std.proofs.lemmas.List.{length-set, get_or-set_same, get_or-set_other, get_or-replicate, length-replicate}
+use Rattle.std.proofs.lemmas.List.{length-set, get_or-set_same, get_or-set_other}
 use Rattle.node_tree.specs.declared.node.Node.{Node}
-use Rattle.node_tree.specs.Nodes.{IsTree, IsChild, IsBelow, IsWithin, child, further}
+use Rattle.node_tree.specs.Nodes.{IsTree, IsChild, child}
 use Rattle.step_sets.specs.Entries.{LeadsToGoal, HasGoalBelow}
-use Rattle.step_sets.specs.Marks.{AreMarks, Tells}
+use Rattle.step_sets.specs.Marks.{AreMarks}
 use Rattle.step_sets.proofs.SetLemmas.{front_more}
 use Rattle.step_sets.proofs.TreeLemmas.{below_parent, child_towards, parent_less}
 

@@ -1,12 +1,12 @@
 -- That the next configuration is legal.
-use Rattle.std.proofs.Common.{◌≡◌, ◌<◌, ◌⊎◌, ℕ, Bool, true, false, List, [], length, Some, arith, inl, inr, sym, subst, refl}
+use Rattle.std.proofs.Common.{◌≡◌, ◌<◌, ◌⊎◌, ℕ, Bool, true, false, List, [], length, Some, inl, inr, subst, refl}
 use Rattle.std.specs.List.{All, AllPairs, Contains}
 use Rattle.std.proofs.lemmas.Bool.{cases_eq}
 use Rattle.std.proofs.lemmas.List.Elements.{All-contains}
 use Rattle.node_tree.specs.declared.node.Kind.{Kind}
 use Rattle.node_tree.specs.declared.node.Kind.TheVariants.{Atomic, Compound, Parallel, Final, Shallow, Deep}
 use Rattle.node_tree.specs.declared.node.Node.{Node as NodeRow}
-use Rattle.node_tree.specs.Nodes.{IsTree, IsBelow, IsChild, child}
+use Rattle.node_tree.specs.Nodes.{IsTree, IsChild, child}
 use Rattle.step_sets.specs.declared.types.Domain.{Domain}
 use Rattle.step_sets.specs.declared.types.Domain.TheVariants.{Node, Whole}
 use Rattle.step_sets.specs.Configuration.{HasAllRegions, HasOneChild, IsLegal}

@@ -1,6 +1,6 @@
 -- Sets of nodes as rising lists, and how a loop makes one.
-use Rattle.std.proofs.Common.{◌≡◌, ◌↔◌, ◌<◌, ◌≤◌, ◌+◌, ◌⊎◌, ℕ, zero, suc, List, [], ◌∷◌, ◌++◌, length, get_or, take, arith, inl, inr, sym, ◌∙◌, subst, refl, ap}
-use Rattle.std.specs.List.{Contains}
+use Rattle.std.proofs.Common.{◌≡◌, ◌↔◌, ◌<◌, ◌≤◌, ◌+◌, ◌⊎◌, ℕ, List, [], ◌∷◌, ◌++◌, length, get_or, take, arith, inl, inr, sym}
+use Rattle.std.specs.List.{All, Contains}
 use Rattle.std.specs.List.Sorted.{IsStrictlyIncreasing}
 use Rattle.std.proofs.lemmas.Bool.{cases_lt}
 use Rattle.std.proofs.lemmas.List.{length_push, get_or_append_left, get_or_push, take_more, take_all, get_or_default, get_or-take, length-take}
@@ -85,3 +85,7 @@ IsPicked-none P xs = IsSetOf-nil _ (λ n f. absurd (let h = f.0.1 in omega arith
 
 pub IsPicked-all : {P : ℕ → Type 0} (xs ys : List ℕ) (i : ℕ) → length xs ≤ i → IsPicked P xs i ys → IsSetOf (λ n. Contains xs n × P n) ys
 IsPicked-all {P} xs ys i all set = rw (take_all i xs all) at set
+
+-- what holds of each member holds of the list
+pub All-from_set : {F : ℕ → Type 0} (P : ℕ → Type 0) (ys : List ℕ) → IsSetOf F ys → ((n : ℕ) → F n → P n) → All P ys
+All-from_set {F} P ys set of = λ k d inside. of (get_or ys k d) ((set.exact (get_or ys k d)).0 (Contains-get_or ys k d inside))

@@ -1,13 +1,14 @@
 -- Where nodes stand in a tree.
-use Rattle.std.proofs.Common.{◌≡◌, ◌<◌, ◌≤◌, ◌⊎◌, ℕ, zero, suc, List, length, Option, Some, None, arith, inl, inr, sym, ◌∙◌, subst, refl, ap}
+use Rattle.std.proofs.Common.{◌≡◌, ◌<◌, ◌⊎◌, ℕ, zero, suc, List, length, Option, Some, None, arith, inl, inr, sym, subst, refl, ap}
 use Rattle.std.specs.Prelude.{slice_get}
 use Rattle.std.proofs.lemmas.Bool.{cases_eq}
 use Rattle.std.specs.Option.{IfSome, IsSomeAnd, option_and_then, option_map}
 use Rattle.step_sets.specs.Kinds.{IsHistory, IsHistoryKind, kind_of}
 use Rattle.std.proofs.lemmas.Option.{slice_get_within}
+use Rattle.node_tree.specs.declared.node.Kind.{Kind}
 use Rattle.node_tree.specs.declared.node.Kind.TheVariants.{Compound}
 use Rattle.node_tree.specs.declared.node.Node.{Node}
-use Rattle.node_tree.specs.Nodes.{IsTree, IsRow, NamesNodes, IsPlaced, IsChild, IsBelow, IsWithin, parent_of, child, further}
+use Rattle.node_tree.specs.Nodes.{IsTree, NamesNodes, IsPlaced, IsChild, IsBelow, IsWithin, parent_of, child, further}
 
 -- a node with a parent is a node of the tree
 pub child_inside : (nodes : List Node) (n p : ℕ) → IsChild nodes n p → n < length nodes
@@ -183,13 +184,17 @@ pub below_within : (nodes : List Node) (l m h : ℕ) → IsBelow nodes l m → I
 below_within nodes l m h b (inl e) = let P : ℕ → Type 0 = λ x. IsBelow nodes l x in subst P e b
 below_within nodes l m h b (inr b') = below_trans nodes l m h b b'
 
--- the initial child of a compound node is a child of it
-pub initial_child : (nodes : List Node) → IsTree nodes → (c start : ℕ) → kind_of nodes c ≡ Some (Compound start) → IsChild nodes start c
-initial_child nodes tree c start of = by_row (slice_get nodes c) refl of
+-- a row names nodes that are there
+pub kind_names : (nodes : List Node) → IsTree nodes → (n : ℕ) (kind : Kind) → kind_of nodes n ≡ Some kind → NamesNodes nodes n kind
+kind_names nodes tree n kind of = by_row (slice_get nodes n) refl of
   where
-    by_row : (o : Option Node) → slice_get nodes c ≡ o → option_map (λ (row : Node). row.kind) o ≡ Some (Compound start) → IsChild nodes start c
+    by_row : (o : Option Node) → slice_get nodes n ≡ o → option_map (λ (row : Node). row.kind) o ≡ Some kind → NamesNodes nodes n kind
     by_row None is e = absurd cc
     by_row (Some node) is e =
-        let names : NamesNodes nodes c node.kind = rw is at (tree.rows c (slice_get_within nodes c node is)).names in
-        let kind : node.kind ≡ Compound start = cc in
-        rw kind at names
+        let names : NamesNodes nodes n node.kind = rw is at (tree.rows n (slice_get_within nodes n node is)).names in
+        let same : node.kind ≡ kind = cc in
+        rw same at names
+
+-- the initial child of a compound node is a child of it
+pub initial_child : (nodes : List Node) → IsTree nodes → (c start : ℕ) → kind_of nodes c ≡ Some (Compound start) → IsChild nodes start c
+initial_child nodes tree c start of = kind_names nodes tree c (Compound start) of

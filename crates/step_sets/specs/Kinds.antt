@@ -1,5 +1,5 @@
 -- The kinds of nodes, and where a node stands in the tree.
-use Rattle.std.specs.Prelude.{◌≡◌, ℕ, List, Option, IsSomeAnd, slice_get}
+use Rattle.std.specs.Prelude.{ℕ, List, Option, IsSomeAnd, slice_get}
 use Rattle.std.specs.Option.{option_map}
 use Rattle.node_tree.specs.declared.node.Kind.{Kind}
 use Rattle.node_tree.specs.declared.node.Kind.TheVariants.{Atomic, Compound, Parallel, Final, Shallow, Deep}

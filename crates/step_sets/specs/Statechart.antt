@@ -1,5 +1,5 @@
 -- Which trees are statecharts, and which targets and histories fit one.
-use Rattle.std.specs.Prelude.{◌≡◌, ◌⊎◌, ◌<◌, ℕ, List, Some, Contains, AllPairs}
+use Rattle.std.specs.Prelude.{◌≡◌, ◌⊎◌, ℕ, List, Some, Contains, AllPairs}
 use Rattle.node_tree.specs.declared.node.Kind.{Kind}
 use Rattle.node_tree.specs.declared.node.Kind.TheVariants.{Atomic, Compound, Parallel, Final, Shallow, Deep}
 use Rattle.node_tree.specs.Nodes.{IsBelow, IsChild, IsWithin}

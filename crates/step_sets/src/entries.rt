@@ -26,7 +26,8 @@ pub fn entry_set(
 ) -> Result<NodeSet, AllocError>
     requires goals { AreNodes tree.now goals.now }
     requires domain { IsDomainOf tree.now domain }
-    ensures { IfOk result (λ entries. IsSetOf (IsEntered tree.now goals.now domain) entries) }
+    ensures entries { IfOk result (λ entries. IsSetOf (IsEntered tree.now goals.now domain) entries) }
+    ensures of_tree { IfOk result (λ entries. AreNodes tree.now entries) }
 {
     let are_goals = mark(alloc, tree, goals)?;
     let above_goals = mark_above_goals(alloc, tree, goals, &are_goals)?;

@@ -21,7 +21,8 @@ pub fn exit_set(
 ) -> Result<NodeSet, AllocError>
     requires active { AreNodes tree.now active.now }
     requires domain { IsDomainOf tree.now domain }
-    ensures { IfOk result (λ exits. IsSetOf (IsExited tree.now active.now domain) exits) }
+    ensures exits { IfOk result (λ exits. IsSetOf (IsExited tree.now active.now domain) exits) }
+    ensures of_tree { IfOk result (λ exits. AreNodes tree.now exits) }
 {
     let mut exits = Vec::new(alloc);
     for node in active.as_slice() {

@@ -1,4 +1,4 @@
-ghost use Rattle.std.specs.Prelude.{◌≡◌, ◌↔◌, ◌<◌, Contains, IfOk, IsTrue, MatchOption, Some, length};
+ghost use Rattle.std.specs.Prelude.{◌≡◌, ◌↔◌, ◌<◌, Contains, IfOk, IfSome, IsTrue, MatchOption, Some, length};
 ghost use Rattle.node_tree.specs.Nodes.{AreNodes, IsChild};
 ghost use Rattle.step_sets.specs.Goals.{record_of};
 ghost use Rattle.step_sets.specs.History.{ArePlaces, CanBeRemembered, IsNewRecord, IsPlaceIn, IsRecordedNow, IsRemembered, NamesNodes, RecordsHistory, record_at};
@@ -27,7 +27,8 @@ pub fn record_history(
     requires active { AreNodes tree.now active.now }
     requires exits { AreNodes tree.now exits.now }
     requires old { NamesNodes tree.now old.now }
-    ensures { IfOk result (λ new. RecordsHistory tree.now active.now exits.now old.now new) }
+    ensures history { IfOk result (λ new. RecordsHistory tree.now active.now exits.now old.now new) }
+    ensures of_tree { IfOk result (λ new. NamesNodes tree.now new) }
 {
     let places = places_of_records(alloc, tree, old)?;
     let mut records = Vec::new(alloc);
@@ -72,9 +73,11 @@ fn new_record(
     requires active { AreNodes tree.now active.now }
     requires node { node < length tree.now }
     requires place { IsPlaceIn old.now place }
-    requires old { record_of old.now node ≡ record_at old.now place }
-    ensures { IfOk result
+    requires at_place { record_of old.now node ≡ record_at old.now place }
+    requires old { NamesNodes tree.now old.now }
+    ensures nodes { IfOk result
         (λ nodes. IsNewRecord tree.now active.now exits.now old.now node nodes) }
+    ensures of_tree { IfOk result (λ nodes. IfSome nodes (λ list. AreNodes tree.now list)) }
 {
     match left_parent(tree, exits, node) {
         Some(left) => Ok(Some(remembered(alloc, tree, active, node, left)?)),
@@ -109,8 +112,9 @@ fn remembered(
     requires active { AreNodes tree.now active.now }
     requires history { history < length tree.now }
     requires parent { parent < length tree.now }
-    ensures { IfOk result (λ nodes. (kind : Kind) → kind_of tree.now history ≡ Some kind
+    ensures nodes { IfOk result (λ nodes. (kind : Kind) → kind_of tree.now history ≡ Some kind
         → IsSetOf (IsRemembered tree.now active.now kind parent) nodes) }
+    ensures of_tree { IfOk result (λ nodes. AreNodes tree.now nodes) }
 {
     let kind = &tree.node(history).kind;
     let mut nodes = Vec::new(alloc);

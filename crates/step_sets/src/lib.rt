@@ -9,6 +9,8 @@ mod marks;
 mod nodes;
 mod preemption;
 mod targets;
+#[cfg(test)]
+mod tests;
 mod transition_domain;
 mod types;
 

@@ -21,8 +21,10 @@ pub fn goals(
 ) -> Result<Targets, AllocError>
     requires history { NamesNodes tree.now history.now }
     requires targets { AreNodes tree.now targets.now }
-    ensures { IfOk result (λ goals. goals ≡ goals_of tree.now history.now targets.now) }
+    ensures goals { IfOk result (λ goals. goals ≡ goals_of tree.now history.now targets.now) }
+    ensures of_tree { IfOk result (λ goals. AreNodes tree.now goals) }
 {
+    let _nodes = tree.len();
     let mut goals = Vec::new(alloc);
     for target in targets {
         push_goals(&mut goals, tree, history, *target)?;

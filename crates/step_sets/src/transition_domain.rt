@@ -1,6 +1,6 @@
-ghost use Rattle.std.specs.Prelude.{◌≡◌, ◌↔◌, ◌<◌, ℕ, length, All, IsTrue, MatchOption};
+ghost use Rattle.std.specs.Prelude.{◌≡◌, ◌↔◌, ◌<◌, ℕ, length, All, IfSome, IsTrue, MatchOption};
 ghost use Rattle.node_tree.specs.Nodes.{AreNodes, IsBelow, IsWithin};
-ghost use Rattle.step_sets.specs.Domains.{IsDomain, IsInternal, IsCommonAncestor, IsInnermostAncestor, outermost_of};
+ghost use Rattle.step_sets.specs.Domains.{IsDomain, IsDomainOf, IsInternal, IsCommonAncestor, IsInnermostAncestor, outermost_of};
 
 use node_tree::Tree;
 
@@ -14,7 +14,8 @@ pub fn domain(tree: &Tree, source: u32, targets: &[u32], reenter: bool) -> Domai
     requires source { source < length tree.now }
     requires targets { AreNodes tree.now targets.now }
     requires some { 0 < length targets.now }
-    ensures { IsDomain tree.now source targets.now reenter result }
+    ensures domain { IsDomain tree.now source targets.now reenter result }
+    ensures of_tree { IsDomainOf tree.now result }
 {
     if is_internal(tree, source, targets, reenter) {
         return Domain::Node(source);
@@ -43,9 +44,10 @@ fn outermost(reenter: bool) -> Domain
 fn innermost_ancestor(tree: &Tree, source: u32, targets: &[u32]) -> Option<u32>
     requires source { source < length tree.now }
     requires targets { AreNodes tree.now targets.now }
-    ensures { MatchOption result
+    ensures ancestor { MatchOption result
         ((a : ℕ) → ¬ IsCommonAncestor tree.now source targets.now a)
         (λ a. IsInnermostAncestor tree.now source targets.now a) }
+    ensures of_tree { IfSome result (λ a. a < length tree.now) }
 {
     let mut node = source;
     while let Some(above) = parent(tree, node) {

@@ -1,6 +1,7 @@
-use Rattle.std.proofs.Common.{◌≡◌, ◌<◌, ◌≤◌, length, arith}
+use Rattle.std.proofs.Common.{◌<◌, ◌≤◌, length, arith}
 use Rattle.step_sets.specs.Entries.{IsEntered}
-use Rattle.step_sets.proofs.EntryLemmas.{from_marks, to_marks, opened_more, opened_same, entries_more, entries_same, entries_all}
+use Rattle.step_sets.proofs.EntryLemmas.{entered_inside, from_marks, to_marks, opened_more, opened_same, entries_more, entries_same, entries_all}
+use Rattle.step_sets.proofs.SetLemmas.{All-from_set}
 use Rattle.step_sets.proofs.entries.entry_set.Goals as goal
 use Rattle.step_sets.proofs.entries.entry_set.Goals.{then-is_entered+in_ok-push, else-is_entered}
 
@@ -37,9 +38,15 @@ loop-node-preserved c =
           entered = entries_same nodes goals domain i entries absent c.loop-node.invariant.entered
         }) ]
 
-pub returns : goal.returns
-returns c =
+pub returns-clause-entries : goal.returns-clause-entries
+returns-clause-entries c =
     let nodes = c.args.tree.now in
     let all : length nodes ≤ c.loop-node.node = let end = c.loop-node-test.false in let count = c.len-node-end.ensures.count in omega arith in
     rw (c.from_rising.ensures, c.from_vec.ensures)
     (entries_all nodes c.args.goals.now c.args.domain c.len-node-end.ensures.tree c.loop-node.node c.loop-node.entries.items all c.loop-node.invariant.entered)
+
+pub returns-clause-of_tree : goal.returns-clause-of_tree
+returns-clause-of_tree c =
+    let nodes = c.args.tree.now in
+    All-from_set (λ n. n < length nodes) _ (returns-clause-entries c)
+    (λ n e. entered_inside nodes c.args.goals.now c.args.domain c.len-node-end.ensures.tree n e)

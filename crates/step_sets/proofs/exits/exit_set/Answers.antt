@@ -1,4 +1,6 @@
-use Rattle.step_sets.proofs.SetLemmas.{IsPicked-push, IsPicked-skip, IsPicked-all}
+use Rattle.std.proofs.Common.{◌<◌, length}
+use Rattle.std.proofs.lemmas.List.Elements.{All-contains}
+use Rattle.step_sets.proofs.SetLemmas.{All-from_set, IsPicked-push, IsPicked-skip, IsPicked-all}
 use Rattle.step_sets.proofs.exits.exit_set.Goals as goal
 use Rattle.step_sets.proofs.exits.exit_set.Goals.{then-is_under+in_ok-push, else-is_under}
 
@@ -15,8 +17,14 @@ loop-node-preserved c =
         rw w.exits-is
         (IsPicked-skip xs ys i c.loop-node-test.true (λ p. let yes = c.is_under.ensures.1 p in let no = w.if-is_under.false in cc) c.loop-node.invariant) ]
 
-pub returns : goal.returns
-returns c =
+pub returns-clause-exits : goal.returns-clause-exits
+returns-clause-exits c =
     let xs = c.as_slice-node-items.result.now in
     rw (c.from_rising.ensures, c.from_vec.ensures, ← c.as_slice-node-items.ensures.nodes)
     (IsPicked-all xs c.loop-node.exits.items c.loop-node.node-index c.loop-node-test.false c.loop-node.invariant)
+
+pub returns-clause-of_tree : goal.returns-clause-of_tree
+returns-clause-of_tree c =
+    let nodes = c.args.tree.now in
+    All-from_set (λ n. n < length nodes) _ (returns-clause-exits c)
+    (λ n e. All-contains (λ n. n < length nodes) c.args.active.now n c.requires.active e.0)

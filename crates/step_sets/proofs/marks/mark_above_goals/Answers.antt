@@ -1,4 +1,4 @@
-use Rattle.std.proofs.Common.{◌≡◌, ◌+◌, ◌-◌, ◌<◌, ◌⊎◌, ℕ, false, length, get_or, arith, IsTrue}
+use Rattle.std.proofs.Common.{◌≡◌, ◌+◌, ◌-◌, ◌<◌, length, arith}
 use Rattle.step_sets.proofs.MarkLemmas.{above_marked, above_kept}
 use Rattle.step_sets.proofs.marks.mark_above_goals.Goals as goal
 

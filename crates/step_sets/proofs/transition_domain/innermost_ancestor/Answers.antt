@@ -1,7 +1,7 @@
-use Rattle.std.proofs.Common.{◌≡◌, ◌<◌, ℕ, List, length, Some, arith, inl, inr, sym}
+use Rattle.std.proofs.Common.{ℕ, List, arith, inl, inr, sym}
 use Rattle.std.specs.List.{All}
 use Rattle.node_tree.specs.declared.node.Node.{Node}
-use Rattle.node_tree.specs.Nodes.{IsChild, IsBelow, IsWithin}
+use Rattle.node_tree.specs.Nodes.{IsChild, IsBelow}
 use Rattle.step_sets.proofs.TreeLemmas.{within_parent, above_child, above_parent}
 use Rattle.step_sets.proofs.transition_domain.innermost_ancestor.Goals as goal
 
@@ -9,8 +9,8 @@ use Rattle.step_sets.proofs.transition_domain.innermost_ancestor.Goals as goal
 abbrev AllBelow : List Node → List ℕ → ℕ → Type 0
 AllBelow nodes targets p = All (λ t. IsBelow nodes t p) targets
 
-pub returns-then-all_below : goal.returns-then-all_below
-returns-then-all_below c =
+pub returns-then-all_below-clause-ancestor : goal.returns-then-all_below-clause-ancestor
+returns-then-all_below-clause-ancestor c =
     let nodes = c.args.tree.now in
     let n = c.loop-above.node in
     let p = c.in-Some.above in
@@ -18,8 +18,8 @@ returns-then-all_below c =
     ((within_parent nodes c.args.source n p c.loop-above.invariant.climbed ch, c.all_below.ensures.0 c.if-all_below.true),
      (λ b common. above_parent nodes n p b ch (c.loop-above.invariant.passed b common)))
 
-pub returns : goal.returns
-returns c = λ a common.
+pub returns-clause-ancestor : goal.returns-clause-ancestor
+returns-clause-ancestor c = λ a common.
     let nodes = c.args.tree.now in
     let n = c.loop-above.node in
     let (p, ch, within) = above_child nodes n a (c.loop-above.invariant.passed a common) in
