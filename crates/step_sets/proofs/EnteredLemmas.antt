@@ -55,8 +55,9 @@ module _ (nodes : List NodeRow) (tree : IsTree nodes) (chart : IsStatechart node
     parent_opens n p c (root whole) = absurd (root_no_child nodes tree p c)
     parent_opens n p c (towards_goal can leads) =
         elim (under_up domain n p can.0 c) [
-          inl is ↦ as_domain is
-        | inr under ↦ as_entered (towards_goal (under, parent_not_history nodes chart n p c) (let (g, has, w) = leads in (g, has, inr (within_parent nodes g n p w c)))) ]
+          | inl is ↦ as_domain is
+          | inr under ↦ as_entered (towards_goal (under, parent_not_history nodes chart n p c) (let (g, has, w) = leads in (g, has, inr (within_parent nodes g n p w c))))
+        ]
     parent_opens n p c (region {n = m} {p = q} can d parallel opens) = let P : ℕ → Type 0 = λ x. Opens nodes goals domain x in subst P (one_parent nodes n q p d c) opens
     parent_opens n p c (initial {n = m} {p = q} can d compound off opens) = let P : ℕ → Type 0 = λ x. Opens nodes goals domain x in subst P (one_parent nodes n q p d c) opens
 
@@ -74,8 +75,9 @@ module _ (nodes : List NodeRow) (tree : IsTree nodes) (chart : IsStatechart node
       decide_goal_below : (p : ℕ) → HasGoalBelow nodes goals p ⊎ ¬ HasGoalBelow nodes goals p
       decide_goal_below p =
           elim (decide_any (λ g. IsBelow nodes g p) (λ g. decide_below nodes tree g p) goals) [
-            inl found ↦ (let (g, has, b) = found in let (m, c, w) = child_towards nodes g p b in inl (m, c, (g, has, w)))
-          | inr none ↦ inr (λ (m, c, (g, has, w)). none g has (within_parent nodes g m p w c)) ]
+            | inl found ↦ (let (g, has, b) = found in let (m, c, w) = child_towards nodes g p b in inl (m, c, (g, has, w)))
+            | inr none ↦ inr (λ (m, c, (g, has, w)). none g has (within_parent nodes g m p w c))
+          ]
 
       -- where a child leads to a goal, that child alone is entered
       one_towards : (c start m n : ℕ) → kind_of nodes c ≡ Some (Compound start) → IsChild nodes m c → LeadsToGoal nodes goals m → IsChild nodes n c → IsEntered nodes goals domain n → n ≡ m
@@ -104,7 +106,8 @@ module _ (nodes : List NodeRow) (tree : IsTree nodes) (chart : IsStatechart node
       pub enters_one : (c start : ℕ) → kind_of nodes c ≡ Some (Compound start) → Opens nodes goals domain c → HasOneChild nodes (IsEntered nodes goals domain) c
       enters_one c start of opens =
           elim (decide_goal_below c) [
-            inl found ↦ (let (m, cm, leads) = found in
-              (m, cm, towards_goal (opens_under m c opens cm, leading_plain m leads) leads, (λ n cn e. one_towards c start m n of cm leads cn e)))
-          | inr none ↦ (let cs = initial_child nodes tree c start of in
-              (start, cs, initial (opens_under start c opens cs, chart.initials c start of) cs of none opens, (λ n cn e. one_initial c start n of none cn e))) ]
+            | inl found ↦ (let (m, cm, leads) = found in
+                (m, cm, towards_goal (opens_under m c opens cm, leading_plain m leads) leads, (λ n cn e. one_towards c start m n of cm leads cn e)))
+            | inr none ↦ (let cs = initial_child nodes tree c start of in
+                (start, cs, initial (opens_under start c opens cs, chart.initials c start of) cs of none opens, (λ n cn e. one_initial c start n of none cn e)))
+          ]

@@ -47,8 +47,9 @@ module _ (nodes : List NodeRow) (goals : List ℕ) (domain : Domain) where
         let within : p < length nodes = omega arith in
         let opens = opens_from n p ((of_opened.tells p within).0 o) in
         elim enters [
-          inl parallel ↦ region can c parallel opens
-        | inr (compound, off) ↦ initial can c compound (λ h. off ((of_above.tells p within).1 h)) opens ]
+          | inl parallel ↦ region can c parallel opens
+          | inr (compound, off) ↦ initial can c compound (λ h. off ((of_above.tells p within).1 h)) opens
+        ]
 
     pub to_marks : (n : ℕ) → n < length nodes → AreMarks (Contains goals) (length nodes) are_goals → AreMarks (HasGoalBelow nodes goals) (length nodes) above → AreMarks (IsOpenSoFar n) (length nodes) opened
         → IsEntered nodes goals domain n → IsEnteredByMarks nodes domain are_goals above opened n
@@ -72,14 +73,16 @@ module _ (nodes : List NodeRow) (goals : List ℕ) (domain : Domain) where
   entered_at_start = IsSetOf-nil (IsEnteredSoFar 0) (λ n e. let before = e.0 in omega arith)
 
   entered_more : (i n : ℕ) → IsEntered nodes goals domain i → IsEnteredSoFar (i + 1) n ↔ (IsEnteredSoFar i n ⊎ (n ≡ i))
-  entered_more i n now =
-      ((λ (before, e). elim (cases_lt n i) [ inl lt ↦ inl (lt, e) | inr ge ↦ inr (omega arith) ]),
-       (λ h. elim h [ inl (before, e) ↦ (omega arith, e) | inr same ↦ (omega arith, rw same now) ]))
+  entered_more i n now = (
+    (λ (before, e). elim (cases_lt n i) [ inl lt ↦ inl (lt, e) | inr ge ↦ inr (omega arith) ]),
+    (λ h. elim h [ inl (before, e) ↦ (omega arith, e) | inr same ↦ (omega arith, rw same now) ]),
+  )
 
   entered_same : (i n : ℕ) → ¬ IsEntered nodes goals domain i → IsEnteredSoFar i n ↔ IsEnteredSoFar (i + 1) n
-  entered_same i n absent =
-      ((λ (before, e). (omega arith, e)),
-       (λ (before, e). elim (cases_lt n i) [ inl lt ↦ (lt, e) | inr ge ↦ absurd (let same : n ≡ i = omega arith in absent (rw same at e)) ]))
+  entered_same i n absent = (
+    (λ (before, e). (omega arith, e)),
+    (λ (before, e). elim (cases_lt n i) [ inl lt ↦ (lt, e) | inr ge ↦ absurd (let same : n ≡ i = omega arith in absent (rw same at e)) ]),
+  )
 
   -- the next node is entered
   pub opened_more : (i : ℕ) (opened : List Bool) → i < length nodes → IsEntered nodes goals domain i → AreMarks (IsOpenSoFar i) (length nodes) opened → AreMarks (IsOpenSoFar (i + 1)) (length nodes) (set opened i true)
@@ -87,7 +90,8 @@ module _ (nodes : List NodeRow) (goals : List ℕ) (domain : Domain) where
       AreMarks-set (length nodes) opened i inside marks
       (λ n. (
         (λ h. elim h [ inl d ↦ inl (inl d) | inr e ↦ elim ((entered_more i n now).0 e) [ inl f ↦ inl (inr f) | inr same ↦ inr same ] ]),
-        (λ h. elim h [ inl o ↦ elim o [ inl d ↦ inl d | inr f ↦ inr ((entered_more i n now).1 (inl f)) ] | inr same ↦ inr ((entered_more i n now).1 (inr same)) ])))
+        (λ h. elim h [ inl o ↦ elim o [ inl d ↦ inl d | inr f ↦ inr ((entered_more i n now).1 (inl f)) ] | inr same ↦ inr ((entered_more i n now).1 (inr same)) ]),
+      ))
 
   pub entries_more : (i : ℕ) (entries : List ℕ) → IsEntered nodes goals domain i → IsSetOf (IsEnteredSoFar i) entries → IsSetOf (IsEnteredSoFar (i + 1)) (entries ++ i ∷ [])
   entries_more i entries now set = IsSetOf-push entries i set (λ n e. e.0) (λ n. entered_more i n now)
@@ -98,7 +102,8 @@ module _ (nodes : List NodeRow) (goals : List ℕ) (domain : Domain) where
       AreMarks-same (length nodes) opened marks
       (λ n inside. (
         (λ h. elim h [ inl d ↦ inl d | inr e ↦ inr ((entered_same i n absent).0 e) ]),
-        (λ h. elim h [ inl d ↦ inl d | inr e ↦ inr ((entered_same i n absent).1 e) ])))
+        (λ h. elim h [ inl d ↦ inl d | inr e ↦ inr ((entered_same i n absent).1 e) ]),
+      ))
 
   pub entries_same : (i : ℕ) (entries : List ℕ) → ¬ IsEntered nodes goals domain i → IsSetOf (IsEnteredSoFar i) entries → IsSetOf (IsEnteredSoFar (i + 1)) entries
   entries_same i entries absent set = IsSetOf-same entries set (λ n. entered_same i n absent)

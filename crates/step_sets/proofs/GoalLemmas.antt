@@ -78,7 +78,7 @@ module _ (nodes : List Node) (tree : IsTree nodes) (chart : IsStatechart nodes) 
     within = λ g has. (let P : ℕ → Type 0 = λ x. IsWithin nodes x top in subst P (only g has) w);
     plain = λ g has. (let P : ℕ → Type 0 = λ x. ¬ IsHistory nodes x in subst P (only g has) plain);
     together = λ g h m n c initial has-g has-h of cm cn gm hn.
-      path_child_unique nodes tree goal m n c cm cn (let P : ℕ → Type 0 = λ x. IsWithin nodes x m in subst P (sym (only g has-g)) gm) (let P : ℕ → Type 0 = λ x. IsWithin nodes x n in subst P (sym (only h has-h)) hn)
+        path_child_unique nodes tree goal m n c cm cn (let P : ℕ → Type 0 = λ x. IsWithin nodes x m in subst P (sym (only g has-g)) gm) (let P : ℕ → Type 0 = λ x. IsWithin nodes x n in subst P (sym (only h has-h)) hn);
   }
     where
       only : (g : ℕ) → Contains (goal ∷ []) g → goal ≡ g
@@ -90,10 +90,10 @@ module _ (nodes : List Node) (tree : IsTree nodes) (chart : IsStatechart nodes) 
     within = λ g has. (are g has).1;
     plain = λ g has. legal.no_history g (are g has).0;
     together = λ g h m n c initial has-g has-h of cm cn gm hn.
-      let member-m = within_member legal g m (are g has-g).0 gm in
-      let member-n = within_member legal h n (are h has-h).0 hn in
-      let (only, co, o, unique) = legal.one_child c initial of (legal.parents m c cm member-m) in
-      unique m cm member-m ∙ sym (unique n cn member-n)
+        let member-m = within_member legal g m (are g has-g).0 gm in
+        let member-n = within_member legal h n (are h has-h).0 hn in
+        let (only, co, o, unique) = legal.one_child c initial of (legal.parents m c cm member-m) in
+        unique m cm member-m ∙ sym (unique n cn member-n);
   }
 
   -- no goal
@@ -101,7 +101,7 @@ module _ (nodes : List Node) (tree : IsTree nodes) (chart : IsStatechart nodes) 
   no_goals top = record {
     within = λ g has. absurd (let (k, h, e) = has in omega arith);
     plain = λ g has. absurd (let (k, h, e) = has in omega arith);
-    together = λ g h m n c initial has-g has-h of cm cn gm hn. absurd (let (k, h', e) = has-g in omega arith)
+    together = λ g h m n c initial has-g has-h of cm cn gm hn. absurd (let (k, h', e) = has-g in omega arith);
   }
 
   remembered_within : (kind : Kind) (parent g : ℕ) → CanBeRemembered nodes kind parent g → IsWithin nodes g parent
@@ -117,7 +117,7 @@ module _ (nodes : List Node) (tree : IsTree nodes) (chart : IsStatechart nodes) 
   record_leads h top list c (kind, of, history, parent, cp, active, legal, has, set) =
       members_goals list top legal
       (λ g has-g. let r = (set.exact g).0 has-g in
-        (r.0, (let P : ℕ → Type 0 = λ x. IsWithin nodes g x in subst P (one_parent nodes h parent top cp c) (remembered_within kind parent g r.1))))
+      (r.0, (let P : ℕ → Type 0 = λ x. IsWithin nodes g x in subst P (one_parent nodes h parent top cp c) (remembered_within kind parent g r.1))))
 
   -- with nothing recorded a history node leads to its default or its parent
   default_leads : (h top : ℕ) (kind : Kind) (default : Option ℕ) → kind_of nodes h ≡ Some kind → ((d : ℕ) → default ≡ Some d → HasDefault kind d) → IsChild nodes h top
@@ -171,8 +171,9 @@ module _ (nodes : List Node) (tree : IsTree nodes) (chart : IsStatechart nodes) 
   some_counts : (t : ℕ) → (top : ℕ) × CountsFor nodes t top
   some_counts t =
       elim (decide_history nodes t) [
-        inl history ↦ (let (p, c) = has_parent t history in (p, inr (history, c)))
-      | inr plain ↦ (t, inl (refl, plain)) ]
+        | inl history ↦ (let (p, c) = has_parent t history in (p, inr (history, c)))
+        | inr plain ↦ (t, inl (refl, plain))
+      ]
     where
       has_parent : (t : ℕ) → IsHistory nodes t → (p : ℕ) × IsChild nodes t p
       has_parent zero history = absurd (chart.root history)
@@ -190,31 +191,38 @@ module _ (nodes : List Node) (tree : IsTree nodes) (chart : IsStatechart nodes) 
       let bc = top_below_too a b g h c apart ga hb gc hc in
       let (p, ap', bp, parallel, inner) = apart.parallel in
       elim (inner c ac bc) [
-        inl e ↦ absurd (let of-p : kind_of nodes p ≡ Some (Compound initial) = rw e of in cc)
-      | inr pc ↦
-          (let (x, cx, px) = child_towards nodes p c pc in
-          let gx : IsWithin nodes g x = within_trans nodes g a x ga (inr (below_within nodes a p x ap' px)) in
-          let hx : IsWithin nodes h x = within_trans nodes h b x hb (inr (below_within nodes b p x bp px)) in
-          path_child_unique nodes tree g m x c cm cx gm gx ∙ path_child_unique nodes tree h x n c cx cn hx hn) ]
+        | inl e ↦ absurd (let of-p : kind_of nodes p ≡ Some (Compound initial) = rw e of in cc)
+        | inr pc ↦
+            (let (x, cx, px) = child_towards nodes p c pc in
+            let gx : IsWithin nodes g x = within_trans nodes g a x ga (inr (below_within nodes a p x ap' px)) in
+            let hx : IsWithin nodes h x = within_trans nodes h b x hb (inr (below_within nodes b p x bp px)) in
+            path_child_unique nodes tree g m x c cm cx gm gx ∙ path_child_unique nodes tree h x n c cx cn hx hn)
+      ]
     where
       -- no node is within both
       no_common : (a b h : ℕ) → AreOrthogonal nodes a b → IsWithin nodes h a → ¬ IsWithin nodes h b
       no_common a b h apart ha hb =
           elim (comparable nodes h a b ha hb) [ inl w ↦ apart.apart w | inr under ↦ apart.apart_too (inr under) ]
+
       top_below : (a b g h c : ℕ) → AreOrthogonal nodes a b → IsWithin nodes g a → IsWithin nodes h b → IsBelow nodes g c → IsBelow nodes h c → IsBelow nodes a c
       top_below a b g h c apart ga hb gc hc =
           elim (comparable nodes g a c ga (inr gc)) [
-            inl w ↦ elim w [
-              inl e ↦ absurd (no_common a b h apart (let P : ℕ → Type 0 = λ x. IsWithin nodes h x in subst P (sym e) (inr hc)) hb)
-            | inr ac ↦ ac ]
-          | inr ca ↦ absurd (no_common a b h apart (inr (below_trans nodes h c a hc ca)) hb) ]
+            | inl w ↦ elim w [
+              | inl e ↦ absurd (no_common a b h apart (let P : ℕ → Type 0 = λ x. IsWithin nodes h x in subst P (sym e) (inr hc)) hb)
+              | inr ac ↦ ac
+            ]
+            | inr ca ↦ absurd (no_common a b h apart (inr (below_trans nodes h c a hc ca)) hb)
+          ]
+
       top_below_too : (a b g h c : ℕ) → AreOrthogonal nodes a b → IsWithin nodes g a → IsWithin nodes h b → IsBelow nodes g c → IsBelow nodes h c → IsBelow nodes b c
       top_below_too a b g h c apart ga hb gc hc =
           elim (comparable nodes h b c hb (inr hc)) [
-            inl w ↦ elim w [
-              inl e ↦ absurd (no_common a b g apart ga (let P : ℕ → Type 0 = λ x. IsWithin nodes g x in subst P (sym e) (inr gc)))
-            | inr bc ↦ bc ]
-          | inr cb ↦ absurd (no_common a b g apart ga (inr (below_trans nodes g c b gc cb))) ]
+            | inl w ↦ elim w [
+              | inl e ↦ absurd (no_common a b g apart ga (let P : ℕ → Type 0 = λ x. IsWithin nodes g x in subst P (sym e) (inr gc)))
+              | inr bc ↦ bc
+            ]
+            | inr cb ↦ absurd (no_common a b g apart ga (inr (below_trans nodes g c b gc cb)))
+          ]
 
   -- goals that are entered together: no history node, and no two of them part at a compound node
   pub record AreCoherent (goals : List ℕ) : Type 0 where
@@ -229,26 +237,28 @@ module _ (nodes : List Node) (tree : IsTree nodes) (chart : IsStatechart nodes) 
   pub goals_coherent : (history : History) (targets : List ℕ) → IsFitHistory nodes history → DoNotClash nodes targets → AreCoherent (goals_of nodes history targets)
   goals_coherent history targets fit apart = record {
     plain = λ g has.
-      let (k, inside, from) = Contains-flat_map leads targets g has in
-      let (top, counts) = some_counts (get_or targets k 0) in
-      (target_leads history (get_or targets k 0) top fit counts).plain g (from 0);
+        let (k, inside, from) = Contains-flat_map leads targets g has in
+        let (top, counts) = some_counts (get_or targets k 0) in
+        (target_leads history (get_or targets k 0) top fit counts).plain g (from 0);
     together = λ g h m n c initial has-g has-h of cm cn gm hn.
-      let (k, in-k, from-k) = Contains-flat_map leads targets g has-g in
-      let (l, in-l, from-l) = Contains-flat_map leads targets h has-h in
-      let (a, counts-a) = some_counts (get_or targets k 0) in
-      let (b, counts-b) = some_counts (get_or targets l 0) in
-      let leads-a = target_leads history (get_or targets k 0) a fit counts-a in
-      let leads-b = target_leads history (get_or targets l 0) b fit counts-b in
-      let ga = leads-a.within g (from-k 0) in
-      let hb = leads-b.within h (from-l 0) in
-      elim (cases_lt k l) [
-        inl before ↦ across a b g h m n c initial (apart k l 0 before in-l a b counts-a counts-b) ga hb of cm cn gm hn
-      | inr ge ↦ elim (cases_lt l k) [
-          inl after ↦ sym (across b a h g n m c initial (apart l k 0 after in-k b a counts-b counts-a) hb ga of cn cm hn gm)
-        | inr le ↦
-            (let same : l ≡ k = omega arith in
-            let P : ℕ → Type 0 = λ x. Contains (leads (get_or targets x 0)) h in
-            leads-a.together g h m n c initial (from-k 0) (subst P same (from-l 0)) of cm cn gm hn) ] ]
+        let (k, in-k, from-k) = Contains-flat_map leads targets g has-g in
+        let (l, in-l, from-l) = Contains-flat_map leads targets h has-h in
+        let (a, counts-a) = some_counts (get_or targets k 0) in
+        let (b, counts-b) = some_counts (get_or targets l 0) in
+        let leads-a = target_leads history (get_or targets k 0) a fit counts-a in
+        let leads-b = target_leads history (get_or targets l 0) b fit counts-b in
+        let ga = leads-a.within g (from-k 0) in
+        let hb = leads-b.within h (from-l 0) in
+        elim (cases_lt k l) [
+          | inl before ↦ across a b g h m n c initial (apart k l 0 before in-l a b counts-a counts-b) ga hb of cm cn gm hn
+          | inr ge ↦ elim (cases_lt l k) [
+            | inl after ↦ sym (across b a h g n m c initial (apart l k 0 after in-k b a counts-b counts-a) hb ga of cn cm hn gm)
+            | inr le ↦
+                (let same : l ≡ k = omega arith in
+                let P : ℕ → Type 0 = λ x. Contains (leads (get_or targets x 0)) h in
+                leads-a.together g h m n c initial (from-k 0) (subst P same (from-l 0)) of cm cn gm hn)
+          ]
+        ];
   }
     where
       leads : ℕ → List ℕ

@@ -40,15 +40,17 @@ pub record_of-push_other : (rs : History) (r : Record) (h : ℕ) → r.0 ≢ h �
 record_of-push_other [] r h apart = record_of-past r [] h apart
 record_of-push_other (s ∷ rest) r h apart =
     elim (cases_eq s.0 h) [
-      inl same ↦ record_of-here s (rest ++ r ∷ []) h same ∙ sym (record_of-here s rest h same)
-    | inr other ↦ record_of-past s (rest ++ r ∷ []) h other ∙ (record_of-push_other rest r h apart ∙ sym (record_of-past s rest h other)) ]
+      | inl same ↦ record_of-here s (rest ++ r ∷ []) h same ∙ sym (record_of-here s rest h same)
+      | inr other ↦ record_of-past s (rest ++ r ∷ []) h other ∙ (record_of-push_other rest r h apart ∙ sym (record_of-past s rest h other))
+    ]
 
 pub record_of-push_same : (rs : History) (r : Record) → record_of rs r.0 ≡ None → record_of (rs ++ r ∷ []) r.0 ≡ Some r.1
 record_of-push_same [] r none = record_of-here r [] r.0 refl
 record_of-push_same (s ∷ rest) r none =
     elim (cases_eq s.0 r.0) [
-      inl same ↦ absurd (let there = record_of-here s rest r.0 same in cc)
-    | inr other ↦ record_of-past s (rest ++ r ∷ []) r.0 other ∙ record_of-push_same rest r (sym (record_of-past s rest r.0 other) ∙ none) ]
+      | inl same ↦ absurd (let there = record_of-here s rest r.0 same in cc)
+      | inr other ↦ record_of-past s (rest ++ r ∷ []) r.0 other ∙ record_of-push_same rest r (sym (record_of-past s rest r.0 other) ∙ none)
+    ]
 
 -- the places of the records from i on
 pub record ArePlacesFrom (end : ℕ) (history : History) (i : ℕ) (places : List (Option ℕ)) : Type 0 where
@@ -71,14 +73,15 @@ module _ (nodes : List Node) (active exits : List ℕ) (old : History) where
   pub AreRecorded-push : (i : ℕ) (record' : List ℕ) (records : History) → i < length nodes → AreNodes nodes record' → IsNewRecord nodes active exits old i (Some record') → AreRecorded nodes active exits old i records → AreRecorded nodes active exits old (i + 1) (records ++ (i, record') ∷ [])
   AreRecorded-push i record' records inside of-tree new were = record {
     in_order = rw (map_push (λ (r : Record). r.0) records (i, record'))
-      (IsStrictlyIncreasing-push (history_nodes records) i were.in_order
-      (λ n has. All-contains (λ n. n < i) (history_nodes records) n (All-map (λ n. n < i) (λ (r : Record). r.0) records were.below) has));
+        (IsStrictlyIncreasing-push (history_nodes records) i were.in_order
+        (λ n has. All-contains (λ n. n < i) (history_nodes records) n (All-map (λ n. n < i) (λ (r : Record). r.0) records were.below) has));
     below = All-push (λ (r : Record). r.0 < i + 1) records (i, record') (later i records were.below) (omega arith);
     named = All-push (λ (r : Record). (r.0 < length nodes) × AreNodes nodes r.1) records (i, record') were.named (inside, of-tree);
     each = λ h before. elim (cases_lt h i) [
-      inl lt ↦ rw (record_of-push_other records (i, record') h (omega arith)) (were.each h lt)
-    | inr ge ↦ (let same : h ≡ i = omega arith in
-        rw (same, record_of-push_same records (i, record') (record_of-none records i i were.below (omega arith))) new) ]
+      | inl lt ↦ rw (record_of-push_other records (i, record') h (omega arith)) (were.each h lt)
+      | inr ge ↦ (let same : h ≡ i = omega arith in
+          rw (same, record_of-push_same records (i, record') (record_of-none records i i were.below (omega arith))) new)
+    ];
   }
 
   -- the next node has none
@@ -88,24 +91,26 @@ module _ (nodes : List Node) (active exits : List ℕ) (old : History) where
     below = later i records were.below;
     named = were.named;
     each = λ h before. elim (cases_lt h i) [
-      inl lt ↦ were.each h lt
-    | inr ge ↦ (let same : h ≡ i = omega arith in
-        rw (same, record_of-none records i i were.below (omega arith)) new) ]
+      | inl lt ↦ were.each h lt
+      | inr ge ↦ (let same : h ≡ i = omega arith in
+          rw (same, record_of-none records i i were.below (omega arith)) new)
+    ];
   }
 
   -- past the tree nothing is recorded
   past_tree : (h : ℕ) → length nodes ≤ h → NamesNodes nodes old → IsNewRecord nodes active exits old h None
   past_tree h past names = record {
     recorded = λ kind parent is history c left. absurd (let inside = child_inside nodes h parent c in omega arith);
-    kept = λ _. sym (record_of-none old (length nodes) h (All-weaker (λ (r : Record). (r.0 < length nodes) × AreNodes nodes r.1) (λ (r : Record). r.0 < length nodes) (λ r p. p.0) old names) past)
+    kept = λ _. sym (record_of-none old (length nodes) h (All-weaker (λ (r : Record). (r.0 < length nodes) × AreNodes nodes r.1) (λ (r : Record). r.0 < length nodes) (λ r p. p.0) old names) past);
   }
 
   pub AreRecorded-all : (i : ℕ) (records : History) → length nodes ≡ i → NamesNodes nodes old → AreRecorded nodes active exits old i records → RecordsHistory nodes active exits old records
   AreRecorded-all i records all names were = record {
     in_order = were.in_order;
     each = λ h. elim (cases_lt h i) [
-      inl lt ↦ were.each h lt
-    | inr ge ↦ rw (record_of-none records i h were.below ge) (past_tree h (omega arith) names) ]
+      | inl lt ↦ were.each h lt
+      | inr ge ↦ rw (record_of-none records i h were.below ge) (past_tree h (omega arith) names)
+    ];
   }
 
 -- the kind that a row names
@@ -119,10 +124,11 @@ pub record_of-named : (nodes : List Node) (rs : History) (h : ℕ) (list : List 
 record_of-named nodes [] h list named is = absurd cc
 record_of-named nodes (r ∷ rest) h list named is =
     elim (cases_eq r.0 h) [
-      inl same ↦
-        (let here = record_of-here r rest h same in
-        let e : r.1 ≡ list = cc in
-        let P : List ℕ → Type 0 = λ xs. AreNodes nodes xs in
-        subst P e (All-head (λ (r : Record). (r.0 < length nodes) × AreNodes nodes r.1) r rest named).1)
-    | inr apart ↦
-        record_of-named nodes rest h list (All-tail (λ (r : Record). (r.0 < length nodes) × AreNodes nodes r.1) r rest named) (sym (record_of-past r rest h apart) ∙ is) ]
+      | inl same ↦
+          (let here = record_of-here r rest h same in
+          let e : r.1 ≡ list = cc in
+          let P : List ℕ → Type 0 = λ xs. AreNodes nodes xs in
+          subst P e (All-head (λ (r : Record). (r.0 < length nodes) × AreNodes nodes r.1) r rest named).1)
+      | inr apart ↦
+          record_of-named nodes rest h list (All-tail (λ (r : Record). (r.0 < length nodes) × AreNodes nodes r.1) r rest named) (sym (record_of-past r rest h apart) ∙ is)
+    ]

@@ -30,12 +30,14 @@ meets_back a b (n, in-a, in-b) = (n, in-b, in-a)
 pub unpreempted_apart : (exits : List (List ℕ)) (stays : List Bool) → KeepsUnpreempted exits stays → AreApart exits stays
 unpreempted_apart exits stays kept = record {
   disjoint = λ i j in-i in-j other stays-i stays-j meets.
-    elim (cases_lt i j) [
-      inl before ↦ when_true (¬ IsPreempted exits stays j) (IsPreempted exits stays j) stays-j (kept.cases j in-j) (i, before, stays-i, meets)
-    | inr ge ↦ elim (cases_lt j i) [
-        inl after ↦ when_true (¬ IsPreempted exits stays i) (IsPreempted exits stays i) stays-i (kept.cases i in-i) (j, after, stays-j, meets_back (get_or exits i []) (get_or exits j []) meets)
-      | inr le ↦ other (omega arith) ] ];
-  dropped = λ i in-i off. when_not_true (get_or stays i false) (¬ IsPreempted exits stays i) (IsPreempted exits stays i) (kept.cases i in-i) off
+      elim (cases_lt i j) [
+        | inl before ↦ when_true (¬ IsPreempted exits stays j) (IsPreempted exits stays j) stays-j (kept.cases j in-j) (i, before, stays-i, meets)
+        | inr ge ↦ elim (cases_lt j i) [
+          | inl after ↦ when_true (¬ IsPreempted exits stays i) (IsPreempted exits stays i) stays-i (kept.cases i in-i) (j, after, stays-j, meets_back (get_or exits i []) (get_or exits j []) meets)
+          | inr le ↦ other (omega arith)
+        ]
+      ];
+  dropped = λ i in-i off. when_not_true (get_or stays i false) (¬ IsPreempted exits stays i) (IsPreempted exits stays i) (kept.cases i in-i) off;
 }
 
 module _ (nodes : List Node) (active exits : List ℕ) (old new : History) (records : RecordsHistory nodes active exits old new) where
@@ -53,7 +55,7 @@ module _ (nodes : List Node) (active exits : List ℕ) (old new : History) (reco
   pub holds_children_or_leaves : HoldsChildrenOrLeaves nodes exits new
   holds_children_or_leaves = record {
     shallow = λ h parent default list of c left is. recorded_all h parent (Shallow default) list of tt c left is;
-    deep = λ h parent default list of c left is. recorded_all h parent (Deep default) list of tt c left is
+    deep = λ h parent default list of c left is. recorded_all h parent (Deep default) list of tt c left is;
   }
 
   kept_fit : (h : ℕ) (list : List ℕ) → ¬ IsRecordedNow nodes exits h → IsFitHistory nodes old → record_of new h ≡ Some list → IsFitRecord nodes h list
@@ -63,15 +65,17 @@ module _ (nodes : List Node) (active exits : List ℕ) (old new : History) (reco
   fit_by_parent h list None no-parent legal within fit is = kept_fit h list (λ (history, p, c, left). cc) fit is
   fit_by_parent h list (Some parent) c legal within fit is =
       elim (decide_history nodes h) [
-        inr plain ↦ kept_fit h list (λ now. plain now.0) fit is
-      | inl history ↦ elim (decide_any (λ x. x ≡ parent) (λ x. cases_eq x parent) exits) [
-          inr none ↦ kept_fit h list (λ (history', p, d, left). none p left (let same : p ≡ parent = cc in same)) fit is
-        | inl found ↦
-            (let (x, left, same) = found in
-            let P : ℕ → Type 0 = λ y. Contains exits y in
-            let left-parent = subst P same left in
-            let (kind, of, history') = history_kind nodes h history in
-            (kind, of, history', parent, c, active, legal, All-contains (Contains active) exits parent within left-parent, recorded_set h parent kind list of history' c left-parent is)) ] ]
+        | inr plain ↦ kept_fit h list (λ now. plain now.0) fit is
+        | inl history ↦ elim (decide_any (λ x. x ≡ parent) (λ x. cases_eq x parent) exits) [
+          | inr none ↦ kept_fit h list (λ (history', p, d, left). none p left (let same : p ≡ parent = cc in same)) fit is
+          | inl found ↦
+              (let (x, left, same) = found in
+              let P : ℕ → Type 0 = λ y. Contains exits y in
+              let left-parent = subst P same left in
+              let (kind, of, history') = history_kind nodes h history in
+              (kind, of, history', parent, c, active, legal, All-contains (Contains active) exits parent within left-parent, recorded_set h parent kind list of history' c left-parent is))
+        ]
+      ]
 
   pub stays_fit : IsLegal nodes (Contains active) → All (Contains active) exits → IsFitHistory nodes old → IsFitHistory nodes new
   stays_fit legal within fit = λ h list is. fit_by_parent h list (parent_of nodes h) refl legal within fit is

@@ -15,25 +15,27 @@ pub AreMarks-set : {F G : ℕ → Type 0} (end : ℕ) (marks : List Bool) (x : �
 AreMarks-set {F} {G} end marks x inside table more = record {
   each = length-set marks x true ∙ table.each;
   tells = λ n within. elim (cases_eq n x) [
-    inl same ↦ (let on : get_or (set marks x true) n false ≡ true = rw same (get_or-set_same marks x true false (omega (arith, table.each))) in
-      ((λ h. (more n).1 (inr same)), (λ g. on)))
-  | inr apart ↦ (let is : get_or (set marks x true) n false ≡ get_or marks n false = get_or-set_other marks x n true false apart in
-      ((λ h. (more n).1 (inl ((table.tells n within).0 (sym is ∙ h)))),
-       (λ g. elim ((more n).0 g) [ inl f ↦ is ∙ (table.tells n within).1 f | inr same ↦ absurd (apart same) ]))) ]
+    | inl same ↦ (let on : get_or (set marks x true) n false ≡ true = rw same (get_or-set_same marks x true false (omega (arith, table.each))) in
+        ((λ h. (more n).1 (inr same)), (λ g. on)))
+    | inr apart ↦ (let is : get_or (set marks x true) n false ≡ get_or marks n false = get_or-set_other marks x n true false apart in (
+      (λ h. (more n).1 (inl ((table.tells n within).0 (sym is ∙ h)))),
+      (λ g. elim ((more n).0 g) [ inl f ↦ is ∙ (table.tells n within).1 f | inr same ↦ absurd (apart same) ]),
+    ))
+  ];
 }
 
 -- the same marks under another name
 pub AreMarks-same : {F G : ℕ → Type 0} (end : ℕ) (marks : List Bool) → AreMarks F end marks → ((n : ℕ) → n < end → F n ↔ G n) → AreMarks G end marks
 AreMarks-same {F} {G} end marks table same = record {
   each = table.each;
-  tells = λ n within. ((λ h. (same n within).0 ((table.tells n within).0 h)), (λ g. (table.tells n within).1 ((same n within).1 g)))
+  tells = λ n within. ((λ h. (same n within).0 ((table.tells n within).0 h)), (λ g. (table.tells n within).1 ((same n within).1 g)));
 }
 
 -- no mark
 pub AreMarks-none : (F : ℕ → Type 0) (end : ℕ) (marks : List Bool) → length marks ≡ end → ((n : ℕ) → n < end → get_or marks n false ≡ false) → ((n : ℕ) → n < end → ¬ F n) → AreMarks F end marks
 AreMarks-none F end marks each off none = record {
   each = each;
-  tells = λ n within. ((λ h. absurd (let no-mark = off n within in cc)), (λ f. absurd (none n within f)))
+  tells = λ n within. ((λ h. absurd (let no-mark = off n within in cc)), (λ f. absurd (none n within f)));
 }
 
 -- a mark for each of the first i of the list, one step on
@@ -42,13 +44,16 @@ AreMarks-more end marks xs i inside within table = AreMarks-set end marks (get_o
 
 -- a node leads to a goal if it is one or a child of it leads to one
 pub leads_cases : (nodes : List Node) (goals : List ℕ) (n : ℕ) → LeadsToGoal nodes goals n ↔ (Contains goals n ⊎ HasGoalBelow nodes goals n)
-leads_cases nodes goals n =
-    ((λ (goal, has, w). elim w [
-        inl e ↦ inl (rw (← e) has)
-      | inr b ↦ (let (m, c, v) = child_towards nodes goal n b in inr (m, c, (goal, has, v))) ]),
-     (λ h. elim h [
-        inl has ↦ (n, has, inl refl)
-      | inr d ↦ (let (m, c, (goal, has, v)) = d in (goal, has, inr (elim v [ inl e ↦ rw e (child m n c) | inr b ↦ below_parent nodes goal m n b c ]))) ]))
+leads_cases nodes goals n = (
+  (λ (goal, has, w). elim w [
+    | inl e ↦ inl (rw (← e) has)
+    | inr b ↦ (let (m, c, v) = child_towards nodes goal n b in inr (m, c, (goal, has, v)))
+  ]),
+  (λ h. elim h [
+    | inl has ↦ (n, has, inl refl)
+    | inr d ↦ (let (m, c, (goal, has, v)) = d in (goal, has, inr (elim v [ inl e ↦ rw e (child m n c) | inr b ↦ below_parent nodes goal m n b c ])))
+  ]),
+)
 
 -- a child of the node, from i on, leads to a goal
 abbrev pub HasGoalFrom : List Node → List ℕ → ℕ → ℕ → Type 0
@@ -62,11 +67,13 @@ leads_by_marks : (nodes : List Node) (goals : List ℕ) (are_goals marks : List 
 leads_by_marks nodes goals are_goals marks i j tree next inside of_goals above =
     let cases = leads_cases nodes goals j in
     let goal = of_goals.tells j inside in
-    let up = above.tells j inside in
-    ((λ h. cases.1 (elim h [ inl g ↦ inl (goal.0 g) | inr a ↦ (let (m, c, le, l) = up.0 a in inr (m, c, l)) ])),
-     (λ l. elim (cases.0 l) [
-        inl g ↦ inl (goal.1 g)
-      | inr d ↦ (let (m, c, l') = d in inr (up.1 (m, c, (let less = parent_less nodes tree m j c in omega arith), l'))) ]))
+    let up = above.tells j inside in (
+      (λ h. cases.1 (elim h [ inl g ↦ inl (goal.0 g) | inr a ↦ (let (m, c, le, l) = up.0 a in inr (m, c, l)) ])),
+      (λ l. elim (cases.0 l) [
+        | inl g ↦ inl (goal.1 g)
+        | inr d ↦ (let (m, c, l') = d in inr (up.1 (m, c, (let less = parent_less nodes tree m j c in omega arith), l')))
+      ]),
+    )
 
 -- the node before i leads to a goal, and its parent is marked
 pub above_marked : (nodes : List Node) (goals : List ℕ) (are_goals marks new : List Bool) (i j : ℕ) → IsTree nodes → j + 1 ≡ i → j < length nodes
@@ -80,11 +87,14 @@ above_marked nodes goals are_goals marks new i j tree next inside of_goals above
       each = each;
       tells = λ n within. (
         (λ h. elim ((tells n within).0 h) [
-          inl o ↦ (let (m, c, le, l') = (above.tells n within).0 o in (m, c, omega arith, l'))
-        | inr c ↦ (j, c, omega arith, l) ]),
+          | inl o ↦ (let (m, c, le, l') = (above.tells n within).0 o in (m, c, omega arith, l'))
+          | inr c ↦ (j, c, omega arith, l)
+        ]),
         (λ (m, c, le, l'). (tells n within).1 (elim (cases_lt j m) [
-          inl lt ↦ inl ((above.tells n within).1 (m, c, omega arith, l'))
-        | inr ge ↦ inr (let same : m ≡ j = omega arith in rw same at c) ])))
+          | inl lt ↦ inl ((above.tells n within).1 (m, c, omega arith, l'))
+          | inr ge ↦ inr (let same : m ≡ j = omega arith in rw same at c)
+        ])),
+      );
     }
 
 -- the node before i leads to no goal, and the marks stay
@@ -96,6 +106,13 @@ above_kept nodes goals are_goals marks i j tree next inside of_goals above off =
     AreMarks-same (length nodes) marks above
     (λ n within. (
       (λ (m, c, le, l). (m, c, omega arith, l)),
-      (λ (m, c, le, l). (m, c, (elim (cases_lt j m) [
-        inl lt ↦ omega arith
-      | inr ge ↦ absurd (let same : m ≡ j = omega arith in off ((leads_by_marks nodes goals are_goals marks i j tree next inside of_goals above).1 (rw same at l))) ]), l))))
+      (λ (m, c, le, l). (
+        m,
+        c,
+        (elim (cases_lt j m) [
+          | inl lt ↦ omega arith
+          | inr ge ↦ absurd (let same : m ≡ j = omega arith in off ((leads_by_marks nodes goals are_goals marks i j tree next inside of_goals above).1 (rw same at l)))
+        ]),
+        l,
+      )),
+    ))

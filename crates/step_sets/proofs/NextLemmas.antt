@@ -31,7 +31,7 @@ first_is_legal nodes tree chart = record {
   parents = λ n p c e. opened p (parent_opens nodes tree chart [] Whole n p c e);
   one_child = λ c start of e. enters_one nodes tree chart [] Whole (no_goals_coherent nodes tree chart) c start of (as_entered e);
   all_regions = λ p of e. enters_regions nodes tree chart [] Whole p of (as_entered e);
-  no_history = λ n e. entered_not_history nodes tree chart [] Whole n e
+  no_history = λ n e. entered_not_history nodes tree chart [] Whole n e;
 }
   where
     opened : (p : ℕ) → Opens nodes [] Whole p → IsEntered nodes [] Whole p
@@ -88,8 +88,9 @@ module _ (nodes : List NodeRow) (tree : IsTree nodes) (chart : IsStatechart node
   nested (Node d) Whole n under-a under-b = inl (λ x under. under_inside nodes (Node d) x under)
   nested (Node d) (Node e) n under-a under-b =
       elim (comparable nodes n d e (inr under-a) (inr under-b)) [
-        inl w ↦ inl (λ x below. below_within nodes x d e below w)
-      | inr b ↦ inr (λ x below. below_trans nodes x e d below b) ]
+        | inl w ↦ inl (λ x below. below_within nodes x d e below w)
+        | inr b ↦ inr (λ x below. below_trans nodes x e d below b)
+      ]
 
   module _ (history : History) (moves : List Move) (fit : IsFitHistory nodes history) (enabled : All (IsEnabled nodes active) moves) (apart : AllPairs (LeaveApart nodes active) moves) where
     -- what a transition enters
@@ -114,12 +115,14 @@ module _ (nodes : List NodeRow) (tree : IsTree nodes) (chart : IsStatechart node
     one_move : (a b : Move) (n : ℕ) → Contains moves a → Contains moves b → IsUnder nodes a.domain n → IsUnder nodes b.domain n → a ≡ b
     one_move a b n has-a has-b under-a under-b =
         elim (same_or_related (LeaveApart nodes active) moves a b apart has-a has-b) [
-          inl e ↦ e
-        | inr related ↦ absurd (elim (nested a.domain b.domain n under-a under-b) [
-            inl into ↦ (let (x, (has, under)) = exits_something a n has-a under-a in
-              elim related [ inl ab ↦ ab x (has, under) (has, into x under) | inr ba ↦ ba x (has, into x under) (has, under) ])
-          | inr into ↦ (let (x, (has, under)) = exits_something b n has-b under-b in
-              elim related [ inl ab ↦ ab x (has, into x under) (has, under) | inr ba ↦ ba x (has, under) (has, into x under) ]) ]) ]
+          | inl e ↦ e
+          | inr related ↦ absurd (elim (nested a.domain b.domain n under-a under-b) [
+            | inl into ↦ (let (x, (has, under)) = exits_something a n has-a under-a in
+                elim related [ inl ab ↦ ab x (has, under) (has, into x under) | inr ba ↦ ba x (has, into x under) (has, under) ])
+            | inr into ↦ (let (x, (has, under)) = exits_something b n has-b under-b in
+                elim related [ inl ab ↦ ab x (has, into x under) (has, under) | inr ba ↦ ba x (has, under) (has, into x under) ])
+          ])
+        ]
 
     -- an active node that no transition leaves
     abbrev Stays : ℕ → Type 0
@@ -131,10 +134,14 @@ module _ (nodes : List NodeRow) (tree : IsTree nodes) (chart : IsStatechart node
 
     -- an active node whose parent stays is left only if the parent is the domain
     kept_child : (n p : ℕ) → IsChild nodes n p → Stays p → ((move : Move) → Contains moves move → ¬ (move.domain ≡ Node p)) → Contains active n → Stays n
-    kept_child n p c (active-p, keeps) no-domain active-n = (active-n, (λ move has (a, under).
-        elim (under_up nodes tree chart move.domain n p under c) [
-          inl is ↦ no-domain move has is
-        | inr up ↦ keeps move has (active-p, up) ]))
+    kept_child n p c (active-p, keeps) no-domain active-n = (
+      active-n,
+      (λ move has (a, under).
+          elim (under_up nodes tree chart move.domain n p under c) [
+            | inl is ↦ no-domain move has is
+            | inr up ↦ keeps move has (active-p, up)
+          ]),
+    )
 
     -- a child that is entered belongs to the transition of its parent
     entered_with : (a b : Move) (n p : ℕ) → Contains moves a → Contains moves b → IsChild nodes n p → IsUnder nodes a.domain n → Enters b n → Enters a n
@@ -170,14 +177,16 @@ module _ (nodes : List NodeRow) (tree : IsTree nodes) (chart : IsStatechart node
     not_entered : (n p : ℕ) → IsChild nodes n p → Stays p → ((move : Move) → Contains moves move → ¬ (move.domain ≡ Node p)) → (move : Move) → Contains moves move → ¬ Enters move n
     not_entered n p c (active-p, keeps) no-domain move has e =
         elim (under_up nodes tree chart move.domain n p (entered_under nodes tree chart (goals_of nodes history move.targets) move.domain n e) c) [
-          inl is ↦ no-domain move has is
-        | inr up ↦ keeps move has (active-p, up) ]
+          | inl is ↦ no-domain move has is
+          | inr up ↦ keeps move has (active-p, up)
+        ]
 
     next_root : Next 0
     next_root =
         elim (decide_any (λ (move : Move). move.domain ≡ Whole) (λ move. decide_whole move.domain) moves) [
-          inl found ↦ (let (move, has, whole) = found in inr (move, has, root whole))
-        | inr none' ↦ inl (legal.root, (λ move has (a, under). not_under move.domain (none' move has) under)) ]
+          | inl found ↦ (let (move, has, whole) = found in inr (move, has, root whole))
+          | inr none' ↦ inl (legal.root, (λ move has (a, under). not_under move.domain (none' move has) under))
+        ]
       where
         not_under : (domain : Domain) → ¬ (domain ≡ Whole) → ¬ IsUnder nodes domain 0
         not_under (Node d) other below = root_not_below nodes tree d below
@@ -185,13 +194,16 @@ module _ (nodes : List NodeRow) (tree : IsTree nodes) (chart : IsStatechart node
 
     -- the domain of a transition that enters something stays
     domain_stays : (move : Move) (n p : ℕ) → Contains moves move → Enters move n → IsChild nodes n p → move.domain ≡ Node p → Stays p
-    domain_stays move n p has e c is = (move_domain_active move has p is, (λ other has-other (a, under).
-        let under-n = entered_under nodes tree chart (goals_of nodes history move.targets) move.domain n e in
-        let same = one_move other move n has-other has (under_down nodes tree chart other.domain n p under c) under-n in
-        let P : Move → Type 0 = λ m. IsUnder nodes m.domain p in
-        let own = subst P same under in
-        let Q : Domain → Type 0 = λ d. IsUnder nodes d p in
-        below_itself nodes tree p (subst Q is own)))
+    domain_stays move n p has e c is = (
+      move_domain_active move has p is,
+      (λ other has-other (a, under).
+          let under-n = entered_under nodes tree chart (goals_of nodes history move.targets) move.domain n e in
+          let same = one_move other move n has-other has (under_down nodes tree chart other.domain n p under c) under-n in
+          let P : Move → Type 0 = λ m. IsUnder nodes m.domain p in
+          let own = subst P same under in
+          let Q : Domain → Type 0 = λ d. IsUnder nodes d p in
+          below_itself nodes tree p (subst Q is own)),
+    )
 
     next_parents : (n p : ℕ) → IsChild nodes n p → Next n → Next p
     next_parents n p c (inl (active-n, keeps)) =
@@ -207,19 +219,26 @@ module _ (nodes : List NodeRow) (tree : IsTree nodes) (chart : IsStatechart node
     next_one_child c start of (inr (move, has, e)) = one_where_open move c start has of (as_entered e)
     next_one_child c start of (inl stays) =
         elim (decide_domain_of c) [
-          inl found ↦ (let (move, has, is) = found in one_where_open move c start has of (as_domain is))
-        | inr no-domain ↦
-            (let (only, co, o, unique) = legal.one_child c start of stays.0 in
-            (only, co, inl (kept_child only c co stays no-domain o), (λ n cn next. elim next [
-              inl kept ↦ unique n cn kept.0
-            | inr entered ↦ absurd (not_entered n c cn stays no-domain entered.0 entered.1 entered.2) ]))) ]
+          | inl found ↦ (let (move, has, is) = found in one_where_open move c start has of (as_domain is))
+          | inr no-domain ↦
+              (let (only, co, o, unique) = legal.one_child c start of stays.0 in (
+                only,
+                co,
+                inl (kept_child only c co stays no-domain o),
+                (λ n cn next. elim next [
+                  | inl kept ↦ unique n cn kept.0
+                  | inr entered ↦ absurd (not_entered n c cn stays no-domain entered.0 entered.1 entered.2)
+                ]),
+              ))
+        ]
 
     next_all_regions : (p : ℕ) → kind_of nodes p ≡ Some Parallel → Next p → HasAllRegions nodes Next p
     next_all_regions p of (inr (move, has, e)) = all_where_open move p has of (as_entered e)
     next_all_regions p of (inl stays) =
         elim (decide_domain_of p) [
-          inl found ↦ (let (move, has, is) = found in all_where_open move p has of (as_domain is))
-        | inr no-domain ↦ (λ r c plain. inl (kept_child r p c stays no-domain (legal.all_regions p of stays.0 r c plain))) ]
+          | inl found ↦ (let (move, has, is) = found in all_where_open move p has of (as_domain is))
+          | inr no-domain ↦ (λ r c plain. inl (kept_child r p c stays no-domain (legal.all_regions p of stays.0 r c plain)))
+        ]
 
     next_of_tree : (n : ℕ) → Next n → n < length nodes
     next_of_tree n (inl stays) = legal.of_tree n stays.0
@@ -236,5 +255,5 @@ module _ (nodes : List NodeRow) (tree : IsTree nodes) (chart : IsStatechart node
       parents = next_parents;
       one_child = next_one_child;
       all_regions = next_all_regions;
-      no_history = next_no_history
+      no_history = next_no_history;
     }

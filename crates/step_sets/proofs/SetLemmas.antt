@@ -13,8 +13,9 @@ pub IsStrictlyIncreasing-push : (xs : List ℕ) (y : ℕ) → IsStrictlyIncreasi
 IsStrictlyIncreasing-push xs y rising below k h =
     rw (get_or_append_left xs (y ∷ []) 0 k inside)
     elim (cases_lt (k + 1) (length xs)) [
-      inl lt ↦ rw (get_or_append_left xs (y ∷ []) 0 (k + 1) lt) (rising k lt)
-    | inr le ↦ rw (get_or_push xs y 0 (k + 1) (omega (arith, length_push xs y, h))) (below (get_or xs k 0) (Contains-get_or xs k 0 inside)) ]
+      | inl lt ↦ rw (get_or_append_left xs (y ∷ []) 0 (k + 1) lt) (rising k lt)
+      | inr le ↦ rw (get_or_push xs y 0 (k + 1) (omega (arith, length_push xs y, h))) (below (get_or xs k 0) (Contains-get_or xs k 0 inside))
+    ]
   where
     inside : k < length xs
     inside = omega (arith, length_push xs y, h)
@@ -26,22 +27,24 @@ IsSetOf-push {F} {G} ys x set below same = record {
   exact = λ n. (
     (λ h. (same n).1 (elim (Contains-push_cases ys x n h) [ inl k ↦ inl ((set.exact n).0 k) | inr e ↦ inr (sym e) ])),
     (λ g. elim ((same n).0 g) [
-      inl f ↦ Contains-append_left ys (x ∷ []) n ((set.exact n).1 f)
-    | inr e ↦ rw e (Contains-push ys x) ]))
+      | inl f ↦ Contains-append_left ys (x ∷ []) n ((set.exact n).1 f)
+      | inr e ↦ rw e (Contains-push ys x)
+    ]),
+  );
 }
 
 -- the same set under another name
 pub IsSetOf-same : {F G : ℕ → Type 0} (ys : List ℕ) → IsSetOf F ys → ((n : ℕ) → F n ↔ G n) → IsSetOf G ys
 IsSetOf-same {F} {G} ys set same = record {
   in_order = set.in_order;
-  exact = λ n. ((λ h. (same n).0 ((set.exact n).0 h)), (λ g. (set.exact n).1 ((same n).1 g)))
+  exact = λ n. ((λ h. (same n).0 ((set.exact n).0 h)), (λ g. (set.exact n).1 ((same n).1 g)));
 }
 
 -- no node
 pub IsSetOf-nil : (F : ℕ → Type 0) → ((n : ℕ) → ¬ F n) → IsSetOf F []
 IsSetOf-nil F none = record {
   in_order = λ k h. absurd (omega arith);
-  exact = λ n. ((λ (k, h, e). absurd (omega arith)), (λ f. absurd (none n f)))
+  exact = λ n. ((λ (k, h, e). absurd (omega arith)), (λ f. absurd (none n f)));
 }
 
 -- those of the first i of xs that are picked
@@ -56,11 +59,13 @@ front_below xs i n rising inside (k, h, e) =
 
 pub front_more : (xs : List ℕ) (i n : ℕ) → i < length xs → Contains (take (i + 1) xs) n ↔ (Contains (take i xs) n ⊎ (n ≡ get_or xs i 0))
 front_more xs i n inside =
-    rw (take_more xs i 0 inside)
-    ((λ h. elim (Contains-push_cases (take i xs) (get_or xs i 0) n h) [ inl k ↦ inl k | inr same ↦ inr (sym same) ]),
-     (λ h. elim h [
-       inl k ↦ Contains-append_left (take i xs) (get_or xs i 0 ∷ []) n k
-     | inr same ↦ rw same (Contains-push (take i xs) (get_or xs i 0)) ]))
+    rw (take_more xs i 0 inside) (
+      (λ h. elim (Contains-push_cases (take i xs) (get_or xs i 0) n h) [ inl k ↦ inl k | inr same ↦ inr (sym same) ]),
+      (λ h. elim h [
+        | inl k ↦ Contains-append_left (take i xs) (get_or xs i 0 ∷ []) n k
+        | inr same ↦ rw same (Contains-push (take i xs) (get_or xs i 0))
+      ]),
+    )
 
 -- the next is picked
 pub IsPicked-push : {P : ℕ → Type 0} (xs ys : List ℕ) (i : ℕ) → IsStrictlyIncreasing xs → i < length xs → P (get_or xs i 0) → IsPicked P xs i ys → IsPicked P xs (i + 1) (ys ++ get_or xs i 0 ∷ [])
@@ -69,8 +74,10 @@ IsPicked-push {P} xs ys i rising inside p set =
     (λ n. (
       (λ g. elim ((front_more xs i n inside).0 g.0) [ inl k ↦ inl (k, g.1) | inr e ↦ inr e ]),
       (λ f. elim f [
-        inl k ↦ ((front_more xs i n inside).1 (inl k.0), k.1)
-      | inr e ↦ ((front_more xs i n inside).1 (inr e), rw e p) ])))
+        | inl k ↦ ((front_more xs i n inside).1 (inl k.0), k.1)
+        | inr e ↦ ((front_more xs i n inside).1 (inr e), rw e p)
+      ]),
+    ))
 
 -- the next is not picked
 pub IsPicked-skip : {P : ℕ → Type 0} (xs ys : List ℕ) (i : ℕ) → i < length xs → ¬ P (get_or xs i 0) → IsPicked P xs i ys → IsPicked P xs (i + 1) ys
@@ -78,7 +85,8 @@ IsPicked-skip {P} xs ys i inside out set =
     IsSetOf-same ys set
     (λ n. (
       (λ f. ((front_more xs i n inside).1 (inl f.0), f.1)),
-      (λ g. elim ((front_more xs i n inside).0 g.0) [ inl k ↦ (k, g.1) | inr e ↦ absurd (out (rw (← e) g.1)) ])))
+      (λ g. elim ((front_more xs i n inside).0 g.0) [ inl k ↦ (k, g.1) | inr e ↦ absurd (out (rw (← e) g.1)) ]),
+    ))
 
 pub IsPicked-none : (P : ℕ → Type 0) (xs : List ℕ) → IsPicked P xs 0 []
 IsPicked-none P xs = IsSetOf-nil _ (λ n f. absurd (let h = f.0.1 in omega arith))

@@ -111,8 +111,9 @@ comparable_below : (nodes : List Node) (l a b : ℕ) → IsBelow nodes l a → I
 comparable_below nodes l0 a0 b (child low high c) below = inl (above_parent nodes low high b c below)
 comparable_below nodes l0 a0 b (further low parent high c above) below =
     elim (above_parent nodes low parent b c below) [
-      inl e ↦ inr (let P : ℕ → Type 0 = λ x. IsBelow nodes x high in subst P e above)
-    | inr rest ↦ comparable_below nodes parent high b above rest ]
+      | inl e ↦ inr (let P : ℕ → Type 0 = λ x. IsBelow nodes x high in subst P e above)
+      | inr rest ↦ comparable_below nodes parent high b above rest
+    ]
 
 pub comparable : (nodes : List Node) (l a b : ℕ) → IsWithin nodes l a → IsWithin nodes l b → IsWithin nodes a b ⊎ IsBelow nodes b a
 comparable nodes l a b (inl e) v = inl (let P : ℕ → Type 0 = λ x. IsWithin nodes x b in subst P e v)
@@ -123,15 +124,17 @@ child_not_below_child : (nodes : List Node) → IsTree nodes → (m n c : ℕ) �
 child_not_below_child nodes tree m n c cm cn b =
     let less = parent_less nodes tree n c cn in
     elim (above_parent nodes m c n cm b) [
-      inl e ↦ omega arith
-    | inr up ↦ (let more = below_less nodes tree c n up in omega arith) ]
+      | inl e ↦ omega arith
+      | inr up ↦ (let more = below_less nodes tree c n up in omega arith)
+    ]
 
 -- one child of a node leads down to another node
 pub path_child_unique : (nodes : List Node) → IsTree nodes → (g m n c : ℕ) → IsChild nodes m c → IsChild nodes n c → IsWithin nodes g m → IsWithin nodes g n → m ≡ n
 path_child_unique nodes tree g m n c cm cn gm gn =
     elim (comparable nodes g m n gm gn) [
-      inl w ↦ elim w [ inl e ↦ e | inr b ↦ absurd (child_not_below_child nodes tree m n c cm cn b) ]
-    | inr b ↦ absurd (child_not_below_child nodes tree n m c cn cm b) ]
+      | inl w ↦ elim w [ inl e ↦ e | inr b ↦ absurd (child_not_below_child nodes tree m n c cm cn b) ]
+      | inr b ↦ absurd (child_not_below_child nodes tree n m c cn cm b)
+    ]
 
 -- the root is no child
 pub root_no_child : (nodes : List Node) → IsTree nodes → (p : ℕ) → ¬ IsChild nodes 0 p
@@ -152,10 +155,12 @@ decide_by_parent : (nodes : List Node) → IsTree nodes → (l h : ℕ) → ((p 
 decide_by_parent nodes tree l h above None e = inr (λ b. let (p, c, w) = above_child nodes l h b in cc)
 decide_by_parent nodes tree l h above (Some p) c =
     elim (cases_eq p h) [
-      inl same ↦ inl (let P : ℕ → Type 0 = λ x. IsBelow nodes l x in subst P same (child l p c))
-    | inr apart ↦ elim (above p (parent_less nodes tree l p c)) [
-        inl b ↦ inl (further l p h c b)
-      | inr not-below ↦ inr (λ b. elim (above_parent nodes l p h c b) [ inl e ↦ apart e | inr up ↦ not-below up ]) ] ]
+      | inl same ↦ inl (let P : ℕ → Type 0 = λ x. IsBelow nodes l x in subst P same (child l p c))
+      | inr apart ↦ elim (above p (parent_less nodes tree l p c)) [
+        | inl b ↦ inl (further l p h c b)
+        | inr not-below ↦ inr (λ b. elim (above_parent nodes l p h c b) [ inl e ↦ apart e | inr up ↦ not-below up ])
+      ]
+    ]
 
 decide_below_within : (nodes : List Node) → IsTree nodes → (fuel l h : ℕ) → l < fuel → IsBelow nodes l h ⊎ ¬ IsBelow nodes l h
 decide_below_within nodes tree zero l h less = absurd (omega arith)

@@ -43,7 +43,7 @@ RecordsHoldChildrenOrLeaves nodes =
 abbrev pub HistoryStaysFit : Nodes → Type 0
 HistoryStaysFit nodes =
     (active exits : List ℕ) (old new : History) → IsLegal nodes (Contains active) → All (Contains active) exits → IsFitHistory nodes old
-        → RecordsHistory nodes active exits old new → IsFitHistory nodes new
+    → RecordsHistory nodes active exits old new → IsFitHistory nodes new
 
 -- a transition with targets, and its domain
 pub record Move : Type 0 where
@@ -73,8 +73,8 @@ IsNext nodes active history moves n =
 abbrev pub NextIsLegal : Nodes → Type 0
 NextIsLegal nodes =
     (active : List ℕ) (history : History) (moves : List Move) → IsLegal nodes (Contains active) → IsFitHistory nodes history
-        → All (IsEnabled nodes active) moves → AllPairs (LeaveApart nodes active) moves
-        → IsLegal nodes (IsNext nodes active history moves)
+    → All (IsEnabled nodes active) moves → AllPairs (LeaveApart nodes active) moves
+    → IsLegal nodes (IsNext nodes active history moves)
 
 -- what the root enters with no goals is a legal configuration
 abbrev pub FirstIsLegal : Nodes → Type 0

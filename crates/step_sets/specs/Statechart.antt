@@ -55,8 +55,8 @@ DoNotClash nodes targets = AllPairs (λ s t. (a b : ℕ) → CountsFor nodes s a
 abbrev pub IsFitRecord : Nodes → ℕ → List ℕ → Type 0
 IsFitRecord nodes h list =
     (kind : Kind) × (kind_of nodes h ≡ Some kind) × IsHistoryKind kind × (parent : ℕ) × IsChild nodes h parent
-        × (active : List ℕ) × IsLegal nodes (Contains active) × Contains active parent
-        × IsSetOf (IsRemembered nodes active kind parent) list
+    × (active : List ℕ) × IsLegal nodes (Contains active) × Contains active parent
+    × IsSetOf (IsRemembered nodes active kind parent) list
 
 -- each record of the history fits a legal configuration of its own
 abbrev pub IsFitHistory : Nodes → History → Type 0

@@ -5,15 +5,13 @@ ghost use Rattle.step_sets.specs.Entries.{CanBeEntered, IsEntered};
 ghost use Rattle.step_sets.specs.Marks.{AreMarks, EntersChild, IsEnteredByMarks, IsEnteredByOpen};
 ghost use Rattle.step_sets.specs.Sets.{IsSetOf};
 
-use std::alloc::{AllocError, Global};
-
-use node_tree::{Kind, NodeSet, Tree};
-use xs_data::Items;
-
 use crate::Domain;
 use crate::exits::is_under;
 use crate::marks::{leads_to_goal, mark, mark_above_goals};
 use crate::nodes::{is_history, parent};
+use node_tree::{Kind, NodeSet, Tree};
+use std::alloc::{AllocError, Global};
+use xs_data::Items;
 
 /// The entry set of a transition with this domain and these goals, after SCXML's `computeEntrySet`:
 /// the nodes below the domain that lead to a goal, and what those of them and the domain enter by

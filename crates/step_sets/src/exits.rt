@@ -4,12 +4,10 @@ ghost use Rattle.step_sets.specs.Domains.{IsDomainOf, IsUnder};
 ghost use Rattle.step_sets.specs.Exits.{IsExited};
 ghost use Rattle.step_sets.specs.Sets.{IsSetOf};
 
-use std::alloc::{AllocError, Global};
-
-use node_tree::{NodeSet, Tree};
-use xs_data::Items;
-
 use crate::Domain;
+use node_tree::{NodeSet, Tree};
+use std::alloc::{AllocError, Global};
+use xs_data::Items;
 
 /// The exit set of a transition with this domain, after SCXML's `computeExitSet`: the active nodes
 /// below the domain, or all active nodes for the whole tree. It costs one look at each active node.

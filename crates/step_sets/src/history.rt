@@ -6,12 +6,10 @@ ghost use Rattle.step_sets.specs.Kinds.{IsHistory, kind_of};
 ghost use Rattle.node_tree.specs.declared.node.Kind.{Kind};
 ghost use Rattle.step_sets.specs.Sets.{IsSetOf};
 
-use std::alloc::{AllocError, Global};
-
-use node_tree::{Kind, NodeSet, Recorded, Targets, Tree};
-use xs_data::Items;
-
 use crate::nodes::{is_history, is_leaf, parent};
+use node_tree::{Kind, NodeSet, Recorded, Targets, Tree};
+use std::alloc::{AllocError, Global};
+use xs_data::Items;
 
 /// The recorded history after these nodes are left, as SCXML's `exitStates` records it: for each
 /// history node whose parent is left the active children of that parent, or for a deep one the active
@@ -90,7 +88,7 @@ fn left_parent(tree: &Tree, exits: &NodeSet, node: u32) -> Option<u32>
     requires { node < length tree.now }
     ensures { MatchOption result (¬ IsRecordedNow tree.now exits.now node)
         (λ p. (p < length tree.now) × IsHistory tree.now node
-            × IsChild tree.now node p × Contains exits.now p) }
+        × IsChild tree.now node p × Contains exits.now p) }
 {
     if !is_history(tree, node) {
         return None;

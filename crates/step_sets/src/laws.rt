@@ -9,8 +9,7 @@ use node_tree::Tree;
 /// that stays before it leaves.
 pub fn preemption_keeps_apart()
     ensures { PreemptionKeepsApart }
-{
-}
+{}
 
 /// What is recorded for a shallow history node is children of its parent, and for a deep one leaves
 /// below its parent.

@@ -3,11 +3,9 @@ ghost use Rattle.node_tree.specs.Nodes.{AreNodes, IsChild};
 ghost use Rattle.step_sets.specs.Entries.{HasGoalBelow};
 ghost use Rattle.step_sets.specs.Marks.{AreMarks};
 
-use std::alloc::{AllocError, Global};
-
-use node_tree::Tree;
-
 use crate::nodes::parent;
+use node_tree::Tree;
+use std::alloc::{AllocError, Global};
 
 /// Marks the nodes of the list among all nodes of the tree.
 pub(crate) fn mark(alloc: Global, tree: &Tree, nodes: &[u32]) -> Result<Vec<bool>, AllocError>

@@ -3,13 +3,11 @@ ghost use Rattle.std.specs.BTreeSet.{contains};
 ghost use Rattle.std.specs.Ordering.{nat_cmp};
 ghost use Rattle.step_sets.specs.Preemption.{KeepsUnpreempted, IsApart, HasTaken, TakesAll};
 
+use crate::Flags;
+use node_tree::NodeSet;
 use std::alloc::{AllocError, Global};
 use std::collections::BTreeSet;
-
-use node_tree::NodeSet;
 use xs_data::Items;
-
-use crate::Flags;
 
 /// Which of the enabled transitions stay, after SCXML's `removeConflictingTransitions`: those whose
 /// exit set has no node in common with the exit set of one that stays before it. It costs a look-up
@@ -30,9 +28,9 @@ pub fn stays(alloc: Global, exits: &[NodeSet]) -> Result<Flags, AllocError>
 fn take_apart(taken: &mut BTreeSet<u32>, nodes: &[u32]) -> Result<bool, AllocError>
     ensures { IfOk result (λ stays. MatchBool stays
         (IsApart nodes.now (contains nat_cmp taken.old)
-            × TakesAll nodes.now (contains nat_cmp taken.old) (contains nat_cmp taken.new))
+        × TakesAll nodes.now (contains nat_cmp taken.old) (contains nat_cmp taken.new))
         (HasTaken nodes.now (contains nat_cmp taken.old)
-            × ((n : ℕ) → contains nat_cmp taken.new n ≡ contains nat_cmp taken.old n))) }
+        × ((n : ℕ) → contains nat_cmp taken.new n ≡ contains nat_cmp taken.old n))) }
 {
     if meets(nodes, taken) {
         return Ok(false);

@@ -4,9 +4,8 @@ ghost use Rattle.step_sets.specs.Goals.{goals_of, goals_at, recorded_or, record_
 ghost use Rattle.step_sets.specs.History.{NamesNodes};
 ghost use Rattle.step_sets.specs.Kinds.{kind_of};
 
-use std::alloc::{AllocError, Global};
-
 use node_tree::{Kind, Recorded, Targets, Tree};
+use std::alloc::{AllocError, Global};
 use xs_data::Items;
 
 /// The goals of a transition with these targets, after SCXML's `getEffectiveTargetStates`: its targets
@@ -46,7 +45,11 @@ fn push_goals(
     let node = tree.node(target);
     match &node.kind {
         Kind::Shallow { default } | Kind::Deep { default } => {
-            push_history(goals, recorded_for(history, target), default.or(node.parent))
+            push_history(
+                goals,
+                recorded_for(history, target),
+                default.or(node.parent),
+            )
         }
         Kind::Atomic | Kind::Compound { .. } | Kind::Parallel | Kind::Final => {
             goals.push(target)?;

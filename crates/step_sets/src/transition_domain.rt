@@ -2,10 +2,9 @@ ghost use Rattle.std.specs.Prelude.{◌≡◌, ◌↔◌, ◌<◌, ℕ, length, 
 ghost use Rattle.node_tree.specs.Nodes.{AreNodes, IsBelow, IsWithin};
 ghost use Rattle.step_sets.specs.Domains.{IsDomain, IsDomainOf, IsInternal, IsCommonAncestor, IsInnermostAncestor, outermost_of};
 
-use node_tree::Tree;
-
 use crate::Domain;
 use crate::nodes::parent;
+use node_tree::Tree;
 
 /// The domain of a transition with targets, after SCXML's `getTransitionDomain`: the node below which
 /// the transition leaves and enters. A history target counts as the history node itself. It costs as
@@ -37,7 +36,11 @@ fn is_internal(tree: &Tree, source: u32, targets: &[u32], reenter: bool) -> bool
 fn outermost(reenter: bool) -> Domain
     ensures { result ≡ outermost_of reenter }
 {
-    if reenter { Domain::Whole } else { Domain::Node(0) }
+    if reenter {
+        Domain::Whole
+    } else {
+        Domain::Node(0)
+    }
 }
 
 /// The innermost proper ancestor of the source that has every target below it.

@@ -1,7 +1,7 @@
 use xs_data::Items;
 
 /// Where a transition works: below one node, or in the whole tree with its root.
-#[derive(Clone, Copy, Debug)]
+#[derive(Clone, Copy, Debug, PartialEq, Eq)]
 pub enum Domain {
     Node(u32),
     Whole,

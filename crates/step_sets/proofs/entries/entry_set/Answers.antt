@@ -18,25 +18,26 @@ loop-node-preserved c =
     let entries = c.loop-node.entries.items in
     let inside : i < length nodes = let before = c.loop-node-test.true in let count = c.len-node-end.ensures.count in omega arith in
     elim c.if-is_entered.branch [
-      then-is_entered+in_ok-push w ↦
-        (let marked = rw (c.deref-in-loop-node.ensures.value, c.deref-in-loop-node-2.ensures.value, c.deref-in-loop-node-3.ensures.value) at (c.is_entered.ensures.0 w.if-is_entered.true) in
-        let now : IsEntered nodes goals domain i = from_marks nodes goals domain tree are_goals above opened i inside c.in_ok-are_goals.ensures c.in_ok-above_goals.ensures c.loop-node.invariant.opened marked in
-        rw (w.opened-is, w.entries-is, w.in_ok-push.ensures.items)
-        record {
-          opened = opened_more nodes goals domain i opened inside now c.loop-node.invariant.opened;
-          entered = entries_more nodes goals domain i entries now c.loop-node.invariant.entered
-        })
-    | else-is_entered w ↦
-        rw (w.opened-is, w.entries-is)
-        (let absent = λ (now : IsEntered nodes goals domain i).
-           let marked = to_marks nodes goals domain tree are_goals above opened i inside c.in_ok-are_goals.ensures c.in_ok-above_goals.ensures c.loop-node.invariant.opened now in
-           let yes = c.is_entered.ensures.1 (rw (c.deref-in-loop-node.ensures.value, c.deref-in-loop-node-2.ensures.value, c.deref-in-loop-node-3.ensures.value) marked) in
-           let off = w.if-is_entered.false in
-           let out : ⊥ = cc in out in
-        record {
-          opened = opened_same nodes goals domain i opened absent c.loop-node.invariant.opened;
-          entered = entries_same nodes goals domain i entries absent c.loop-node.invariant.entered
-        }) ]
+      | then-is_entered+in_ok-push w ↦
+          (let marked = rw (c.deref-in-loop-node.ensures.value, c.deref-in-loop-node-2.ensures.value, c.deref-in-loop-node-3.ensures.value) at (c.is_entered.ensures.0 w.if-is_entered.true) in
+          let now : IsEntered nodes goals domain i = from_marks nodes goals domain tree are_goals above opened i inside c.in_ok-are_goals.ensures c.in_ok-above_goals.ensures c.loop-node.invariant.opened marked in
+          rw (w.opened-is, w.entries-is, w.in_ok-push.ensures.items)
+          record {
+            opened = opened_more nodes goals domain i opened inside now c.loop-node.invariant.opened;
+            entered = entries_more nodes goals domain i entries now c.loop-node.invariant.entered;
+          })
+      | else-is_entered w ↦
+          rw (w.opened-is, w.entries-is)
+          (let absent = λ (now : IsEntered nodes goals domain i).
+          let marked = to_marks nodes goals domain tree are_goals above opened i inside c.in_ok-are_goals.ensures c.in_ok-above_goals.ensures c.loop-node.invariant.opened now in
+          let yes = c.is_entered.ensures.1 (rw (c.deref-in-loop-node.ensures.value, c.deref-in-loop-node-2.ensures.value, c.deref-in-loop-node-3.ensures.value) marked) in
+          let off = w.if-is_entered.false in
+          let out : ⊥ = cc in out in
+          record {
+            opened = opened_same nodes goals domain i opened absent c.loop-node.invariant.opened;
+            entered = entries_same nodes goals domain i entries absent c.loop-node.invariant.entered;
+          })
+    ]
 
 pub returns-clause-entries : goal.returns-clause-entries
 returns-clause-entries c =

@@ -8,5 +8,5 @@ use Rattle.step_sets.proofs.entries.entry_set.Given as goal
 abbrev pub invariant-loop-node : goal.invariant-loop-node
 invariant-loop-node l = record {
   opened : AreMarks (IsOpenSoFar l.tree l.goals l.domain l.node) (length l.tree) l.opened.items;
-  entered : IsSetOf (IsEnteredSoFar l.tree l.goals l.domain l.node) l.entries.items
+  entered : IsSetOf (IsEnteredSoFar l.tree l.goals l.domain l.node) l.entries.items;
 }

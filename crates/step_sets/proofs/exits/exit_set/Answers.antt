@@ -10,12 +10,13 @@ loop-node-preserved c =
     let ys = c.loop-node.exits.items in
     let i = c.loop-node.node-index in
     elim c.if-is_under.branch [
-      then-is_under+in_ok-push w ↦
-        rw (w.exits-is, w.in_ok-push.ensures.items)
-        (IsPicked-push xs ys i c.as_slice-node-items.ensures.rising c.loop-node-test.true (c.is_under.ensures.0 w.if-is_under.true) c.loop-node.invariant)
-    | else-is_under w ↦
-        rw w.exits-is
-        (IsPicked-skip xs ys i c.loop-node-test.true (λ p. let yes = c.is_under.ensures.1 p in let no = w.if-is_under.false in cc) c.loop-node.invariant) ]
+      | then-is_under+in_ok-push w ↦
+          rw (w.exits-is, w.in_ok-push.ensures.items)
+          (IsPicked-push xs ys i c.as_slice-node-items.ensures.rising c.loop-node-test.true (c.is_under.ensures.0 w.if-is_under.true) c.loop-node.invariant)
+      | else-is_under w ↦
+          rw w.exits-is
+          (IsPicked-skip xs ys i c.loop-node-test.true (λ p. let yes = c.is_under.ensures.1 p in let no = w.if-is_under.false in cc) c.loop-node.invariant)
+    ]
 
 pub returns-clause-exits : goal.returns-clause-exits
 returns-clause-exits c =

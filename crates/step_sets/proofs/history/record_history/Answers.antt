@@ -10,12 +10,13 @@ loop-node-preserved c =
     let records = c.loop-node.records.items in
     let inside : i < length nodes = let before = c.loop-node-test.true in let count = c.len-node-end.ensures.count in omega arith in
     elim c.match-branch-3.branch [
-      in-Some+in_ok-push w ↦
-        rw (w.records-is, w.in_ok-push.ensures.items)
-        (AreRecorded-push nodes c.args.active.now c.args.exits.now c.args.old.now i w.in-Some.nodes records inside (rw w.in-Some.is at c.in_ok-nodes.ensures.of_tree) (rw (← w.in-Some.is) c.in_ok-nodes.ensures.nodes) c.loop-node.invariant)
-    | in_default w ↦
-        rw w.records-is
-        (AreRecorded-skip nodes c.args.active.now c.args.exits.now c.args.old.now i records (rw (← w.in_default.is) c.in_ok-nodes.ensures.nodes) c.loop-node.invariant) ]
+      | in-Some+in_ok-push w ↦
+          rw (w.records-is, w.in_ok-push.ensures.items)
+          (AreRecorded-push nodes c.args.active.now c.args.exits.now c.args.old.now i w.in-Some.nodes records inside (rw w.in-Some.is at c.in_ok-nodes.ensures.of_tree) (rw (← w.in-Some.is) c.in_ok-nodes.ensures.nodes) c.loop-node.invariant)
+      | in_default w ↦
+          rw w.records-is
+          (AreRecorded-skip nodes c.args.active.now c.args.exits.now c.args.old.now i records (rw (← w.in_default.is) c.in_ok-nodes.ensures.nodes) c.loop-node.invariant)
+    ]
 
 pub returns-clause-history : goal.returns-clause-history
 returns-clause-history c =

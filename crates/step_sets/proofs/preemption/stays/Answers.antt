@@ -18,5 +18,5 @@ returns c =
     rw c.from_vec.ensures
     record {
       each = let each = c.loop-exit.invariant.each in let end = c.loop-exit-test.false in let within = c.loop-exit.auto.exit-index-end in omega arith;
-      cases = λ k inside. c.loop-exit.invariant.cases k (let end = c.loop-exit-test.false in omega arith)
+      cases = λ k inside. c.loop-exit.invariant.cases k (let end = c.loop-exit-test.false in omega arith);
     }

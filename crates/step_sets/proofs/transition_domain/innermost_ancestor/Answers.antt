@@ -14,9 +14,10 @@ returns-then-all_below-clause-ancestor c =
     let nodes = c.args.tree.now in
     let n = c.loop-above.node in
     let p = c.in-Some.above in
-    let ch : IsChild nodes n p = sym c.in-Some.ensures.value in
-    ((within_parent nodes c.args.source n p c.loop-above.invariant.climbed ch, c.all_below.ensures.0 c.if-all_below.true),
-     (λ b common. above_parent nodes n p b ch (c.loop-above.invariant.passed b common)))
+    let ch : IsChild nodes n p = sym c.in-Some.ensures.value in (
+      (within_parent nodes c.args.source n p c.loop-above.invariant.climbed ch, c.all_below.ensures.0 c.if-all_below.true),
+      (λ b common. above_parent nodes n p b ch (c.loop-above.invariant.passed b common)),
+    )
 
 pub returns-clause-ancestor : goal.returns-clause-ancestor
 returns-clause-ancestor c = λ a common.
@@ -36,6 +37,7 @@ loop-above-preserved c =
       inside = let before = c.in-Some.ensures.before in let here = c.loop-above.invariant.inside in omega arith;
       climbed = inr (within_parent nodes c.args.source n p c.loop-above.invariant.climbed ch);
       passed = λ a common. elim (above_parent nodes n p a ch (c.loop-above.invariant.passed a common)) [
-        inl e ↦ absurd (let all : AllBelow nodes c.args.targets.now p = rw e common.1 in let yes = c.all_below.ensures.1 all in let no-more = c.if-all_below.false in cc)
-      | inr b ↦ b ]
+        | inl e ↦ absurd (let all : AllBelow nodes c.args.targets.now p = rw e common.1 in let yes = c.all_below.ensures.1 all in let no-more = c.if-all_below.false in cc)
+        | inr b ↦ b
+      ];
     }

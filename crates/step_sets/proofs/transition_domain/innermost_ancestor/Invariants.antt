@@ -8,7 +8,7 @@ abbrev pub invariant-loop-above : goal.invariant-loop-above
 invariant-loop-above l = record {
   inside : l.node < length l.tree;
   climbed : IsWithin l.tree l.source l.node;
-  passed : (a : ℕ) → IsCommonAncestor l.tree l.source l.targets a → IsBelow l.tree l.node a
+  passed : (a : ℕ) → IsCommonAncestor l.tree l.source l.targets a → IsBelow l.tree l.node a;
 }
 
 abbrev pub decreases-loop-above : goal.decreases-loop-above
