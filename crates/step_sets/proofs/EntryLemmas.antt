@@ -11,7 +11,7 @@ use Rattle.step_sets.specs.Entries.{HasGoalBelow, IsEntered, Opens, towards_goal
 use Rattle.step_sets.specs.Marks.{AreMarks, IsEnteredByMarks}
 use Rattle.step_sets.specs.Sets.{IsSetOf}
 use Rattle.step_sets.proofs.MarkLemmas.{AreMarks-set, AreMarks-same, leads_cases}
-use Rattle.step_sets.proofs.SetLemmas.{IsSetOf-push, IsSetOf-same, IsSetOf-nil}
+use Rattle.step_sets.proofs.SetLemmas.{IsSetOf-push, IsSetOf-same}
 use Rattle.step_sets.proofs.TreeLemmas.{below_inside, parent_less}
 
 -- what is below the domain is a node of the tree
@@ -64,13 +64,6 @@ module _ (nodes : List NodeRow) (goals : List ℕ) (domain : Domain) where
         let before = parent_less nodes tree n p c in
         let within : p < length nodes = omega arith in
         inr (can, inr (p, c, (of_opened.tells p within).1 (opens_to n p before opens), inr (compound, (λ on. off ((of_above.tells p within).0 on)))))
-
-  -- nothing is entered before the first node
-  pub open_at_start : (n : ℕ) → (domain ≡ Node n) ↔ IsOpenSoFar 0 n
-  open_at_start n = ((λ d. inl d), (λ h. elim h [ inl d ↦ d | inr e ↦ absurd (let before = e.0 in omega arith) ]))
-
-  pub entered_at_start : IsSetOf (IsEnteredSoFar 0) []
-  entered_at_start = IsSetOf-nil (IsEnteredSoFar 0) (λ n e. let before = e.0 in omega arith)
 
   entered_more : (i n : ℕ) → IsEntered nodes goals domain i → IsEnteredSoFar (i + 1) n ↔ (IsEnteredSoFar i n ⊎ (n ≡ i))
   entered_more i n now = (

@@ -31,13 +31,6 @@ AreMarks-same {F} {G} end marks table same = record {
   tells = λ n within. ((λ h. (same n within).0 ((table.tells n within).0 h)), (λ g. (table.tells n within).1 ((same n within).1 g)));
 }
 
--- no mark
-pub AreMarks-none : (F : ℕ → Type 0) (end : ℕ) (marks : List Bool) → length marks ≡ end → ((n : ℕ) → n < end → get_or marks n false ≡ false) → ((n : ℕ) → n < end → ¬ F n) → AreMarks F end marks
-AreMarks-none F end marks each off none = record {
-  each = each;
-  tells = λ n within. ((λ h. absurd (let no-mark = off n within in cc)), (λ f. absurd (none n within f)));
-}
-
 -- a mark for each of the first i of the list, one step on
 pub AreMarks-more : (end : ℕ) (marks : List Bool) (xs : List ℕ) (i : ℕ) → i < length xs → get_or xs i 0 < end → AreMarks (Contains (take i xs)) end marks → AreMarks (Contains (take (i + 1) xs)) end (set marks (get_or xs i 0) true)
 AreMarks-more end marks xs i inside within table = AreMarks-set end marks (get_or xs i 0) within table (λ n. front_more xs i n inside)

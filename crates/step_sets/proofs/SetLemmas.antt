@@ -40,13 +40,6 @@ IsSetOf-same {F} {G} ys set same = record {
   exact = λ n. ((λ h. (same n).0 ((set.exact n).0 h)), (λ g. (set.exact n).1 ((same n).1 g)));
 }
 
--- no node
-pub IsSetOf-nil : (F : ℕ → Type 0) → ((n : ℕ) → ¬ F n) → IsSetOf F []
-IsSetOf-nil F none = record {
-  in_order = λ k h. absurd (omega arith);
-  exact = λ n. ((λ (k, h, e). absurd (omega arith)), (λ f. absurd (none n f)));
-}
-
 -- those of the first i of xs that are picked
 abbrev pub IsPicked : (ℕ → Type 0) → List ℕ → ℕ → List ℕ → Type 0
 IsPicked P xs i ys = IsSetOf (λ n. Contains (take i xs) n × P n) ys
@@ -87,9 +80,6 @@ IsPicked-skip {P} xs ys i inside out set =
       (λ f. ((front_more xs i n inside).1 (inl f.0), f.1)),
       (λ g. elim ((front_more xs i n inside).0 g.0) [ inl k ↦ (k, g.1) | inr e ↦ absurd (out (rw (← e) g.1)) ]),
     ))
-
-pub IsPicked-none : (P : ℕ → Type 0) (xs : List ℕ) → IsPicked P xs 0 []
-IsPicked-none P xs = IsSetOf-nil _ (λ n f. absurd (let h = f.0.1 in omega arith))
 
 pub IsPicked-all : {P : ℕ → Type 0} (xs ys : List ℕ) (i : ℕ) → length xs ≤ i → IsPicked P xs i ys → IsSetOf (λ n. Contains xs n × P n) ys
 IsPicked-all {P} xs ys i all set = rw (take_all i xs all) at set

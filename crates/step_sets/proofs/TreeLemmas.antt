@@ -1,5 +1,5 @@
 -- Where nodes stand in a tree.
-use Rattle.std.proofs.Common.{◌≡◌, ◌<◌, ◌⊎◌, ℕ, zero, suc, List, length, Option, Some, None, arith, inl, inr, sym, subst, refl, ap}
+use Rattle.std.proofs.Common.{◌≡◌, ◌<◌, ◌⊎◌, ℕ, zero, suc, List, length, Option, Some, None, arith, inl, inr, sym, subst, refl}
 use Rattle.std.specs.Prelude.{slice_get}
 use Rattle.std.proofs.lemmas.Bool.{cases_eq}
 use Rattle.std.specs.Option.{IfSome, IsSomeAnd, option_and_then, option_map}
@@ -144,13 +144,6 @@ pub root_not_below : (nodes : List Node) → IsTree nodes → (h : ℕ) → ¬ I
 root_not_below nodes tree h b = let less = below_less nodes tree 0 h b in omega arith
 
 -- whether a node is below another can be decided
-decide_same : (o : Option ℕ) (p : ℕ) → (o ≡ Some p) ⊎ (o ≡ Some p → ⊥)
-decide_same None p = inr (λ e. cc)
-decide_same (Some q) p = elim (cases_eq q p) [ inl e ↦ inl (ap Some e) | inr apart ↦ inr (λ e. apart (let same : q ≡ p = cc in same)) ]
-
-pub decide_child : (nodes : List Node) (n p : ℕ) → IsChild nodes n p ⊎ ¬ IsChild nodes n p
-decide_child nodes n p = decide_same (parent_of nodes n) p
-
 decide_by_parent : (nodes : List Node) → IsTree nodes → (l h : ℕ) → ((p : ℕ) → p < l → IsBelow nodes p h ⊎ ¬ IsBelow nodes p h) → (o : Option ℕ) → parent_of nodes l ≡ o → IsBelow nodes l h ⊎ ¬ IsBelow nodes l h
 decide_by_parent nodes tree l h above None e = inr (λ b. let (p, c, w) = above_child nodes l h b in cc)
 decide_by_parent nodes tree l h above (Some p) c =

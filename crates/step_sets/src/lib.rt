@@ -1,4 +1,6 @@
-//! The sets of one step of a state machine.
+//! The sets of one step of a statechart: which nodes a transition leaves and enters, where its targets
+//! lead, what history nodes remember, and which of the enabled transitions stay. Each call answers
+//! exactly the set of a definition in `specs/`, and `laws` says what follows from the definitions.
 #![tactic(auto)]
 
 mod entries;
