@@ -61,18 +61,34 @@ pub record IsRow (nodes : List Node) (n : ℕ) : Type 0 where
 abbrev pub HasNewId : List Node → ℕ → Type 0
 HasNewId nodes n = (earlier : ℕ) → earlier < n → id_of nodes earlier ≢ id_of nodes n
 
--- what is so of the nodes of each tree
-pub record IsTree (nodes : List Node) : Type 0 where
-  pub some : 0 < length nodes
-  pub few : length nodes < 2 ^ 32
-  pub rows : (n : ℕ) → n < length nodes → IsRow nodes n
-  pub ids : (n : ℕ) → n < length nodes → HasNewId nodes n
-
 -- the first of the numbers below `end` that breaks a rule
 pub record IsFirstBreach (Rule : ℕ → Type 0) (end n : ℕ) : Type 0 where
   pub inside : n < end
   pub broken : Rule n → ⊥
   pub before : (earlier : ℕ) → earlier < n → Rule earlier
+
+-- each row is in its place, and names nodes that are there
+abbrev pub AreRows : List Node → Type 0
+AreRows nodes = (n : ℕ) → n < length nodes → IsRow nodes n
+
+-- each row has an id of its own
+abbrev pub HaveNewIds : List Node → Type 0
+HaveNewIds nodes = (n : ℕ) → n < length nodes → HasNewId nodes n
+
+-- what is so of the nodes of each tree
+pub record IsTree (nodes : List Node) : Type 0 where
+  pub some : 0 < length nodes
+  pub few : length nodes < 2 ^ 32
+  pub rows : AreRows nodes
+  pub ids : HaveNewIds nodes
+
+-- the first row that is out of its place or names a node that is not there
+abbrev pub IsFirstMisplaced : List Node → ℕ → Type 0
+IsFirstMisplaced nodes = IsFirstBreach (IsRow nodes) (length nodes)
+
+-- the first row whose id an earlier one has
+abbrev pub IsFirstRepeated : List Node → ℕ → Type 0
+IsFirstRepeated nodes = IsFirstBreach (HasNewId nodes) (length nodes)
 
 -- the numbers are those of nodes
 abbrev pub AreNodes : List Node → List ℕ → Type 0

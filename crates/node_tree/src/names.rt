@@ -2,7 +2,7 @@
 
 ghost use Rattle.std.specs.Prelude.{◌≡◌, ◌&&◌, ◌<◌, ◌^◌, ℕ, Some, None, List, IfOk, OnOk, if◌then◌else◌, is_none, length, slice_index_or};
 ghost use Rattle.std.specs.Str.{bytes_eq};
-ghost use Rattle.node_tree.specs.Nodes.{ArePlaced, HasNewId, IsFirstBreach};
+ghost use Rattle.node_tree.specs.Nodes.{ArePlaced, HaveNewIds, IsFirstRepeated};
 ghost use Rattle.node_tree.specs.Tables.{AreChildren, AreIds, Names, named};
 
 use crate::fault::TreeFault;
@@ -17,9 +17,9 @@ pub(crate) type Names = BTreeMap<Vec<u8>, u32>;
 pub(crate) fn index_ids(alloc: Global, nodes: &[Node]) -> Result<Names, TreeFault>
     requires few { length nodes.now < 2 ^ 32 }
     ensures ids { IfOk result (AreIds nodes.now) }
-    ensures ok { OnOk result ((n : ℕ) → n < length nodes.now → HasNewId nodes.now n) }
+    ensures ok { OnOk result (HaveNewIds nodes.now) }
     ensures no_node { (n : ℕ) → result ≡ Err (TreeFault.NoNode n) → ⊥ }
-    ensures double_id { (n : ℕ) → result ≡ Err (TreeFault.DoubleId n) → IsFirstBreach (HasNewId nodes.now) (length nodes.now) n }
+    ensures double_id { (n : ℕ) → result ≡ Err (TreeFault.DoubleId n) → IsFirstRepeated nodes.now n }
 {
     let mut ids = BTreeMap::new(alloc);
     for n in 0..nodes.len() as u32 {
@@ -55,7 +55,8 @@ pub(crate) fn index_children(alloc: Global, nodes: &[Node]) -> Result<Vec<Names>
 /// A number of tables without a name.
 fn empty_tables(alloc: Global, count: usize) -> Result<Vec<Names>, AllocError>
     ensures len { IfOk result (λ tables. length tables.items ≡ count) }
-    ensures empty { IfOk result (λ tables. (n : ℕ) (d : Names) (name : List ℕ) → n < count → named (slice_index_or tables.items n d) name ≡ None) }
+    ensures empty { IfOk result (λ tables. (n : ℕ) (d : Names) (name : List ℕ) →
+        n < count → named (slice_index_or tables.items n d) name ≡ None) }
 {
     let mut tables = Vec::with_capacity(alloc, count)?;
     for _ in 0..count {
@@ -67,7 +68,8 @@ fn empty_tables(alloc: Global, count: usize) -> Result<Vec<Names>, AllocError>
 /// Enters a name for a node, unless it stands for a node already, and answers the node that it stood for.
 fn enter(names: &mut Names, alloc: Global, name: &[u8], n: u32) -> Result<Option<u32>, AllocError>
     ensures before { IfOk result (λ before. before ≡ named names.old name.now) }
-    ensures after { OnOk result ((q : List ℕ) → named names.new q ≡ (if is_none (named names.old name.now) && bytes_eq q name.now then Some n else named names.old q)) }
+    ensures after { OnOk result ((q : List ℕ) → named names.new q ≡
+        (if is_none (named names.old name.now) && bytes_eq q name.now then Some n else named names.old q)) }
 {
     if let Some(held) = names.get(name) {
         return Ok(Some(*held));

@@ -1,7 +1,7 @@
 //! Whether rows stand in document order and name nodes that are there.
 
 ghost use Rattle.std.specs.Prelude.{◌≡◌, ◌↔◌, ◌+◌, ◌<◌, ◌^◌, ℕ, IfNone, IfSome, IsTrue, length, slice_get};
-ghost use Rattle.node_tree.specs.Nodes.{ArePlaced, HasNames, IsChild, IsFirstBreach, IsPlaced, IsRow, IsWithin};
+ghost use Rattle.node_tree.specs.Nodes.{ArePlaced, AreRows, HasNames, IsChild, IsFirstMisplaced, IsPlaced, IsWithin};
 
 use crate::node::{Kind, Node};
 
@@ -9,8 +9,8 @@ use crate::node::{Kind, Node};
 /// climbed over at one row is never climbed again.
 pub(crate) fn first_misplaced(nodes: &[Node]) -> Option<u32>
     requires few { length nodes.now < 2 ^ 32 }
-    ensures none { IfNone result ((n : ℕ) → n < length nodes.now → IsRow nodes.now n) }
-    ensures some { IfSome result (IsFirstBreach (IsRow nodes.now) (length nodes.now)) }
+    ensures none { IfNone result (AreRows nodes.now) }
+    ensures some { IfSome result (IsFirstMisplaced nodes.now) }
 {
     for n in 0..nodes.len() as u32 {
         if !is_placed(nodes, n) || !has_names(nodes, n) {

@@ -1,5 +1,5 @@
 ghost use Rattle.std.specs.Prelude.{◌≡◌, ◌↔◌, ◌<◌, ◌^◌, ℕ, IfOk, IfSome, OnOk, IsTrue, slice_get, length};
-ghost use Rattle.node_tree.specs.Nodes.{IsTree, IsRow, HasNewId, IsFirstBreach, IsBelow, child_of, id_at, parent_of};
+ghost use Rattle.node_tree.specs.Nodes.{AreRows, IsBelow, IsFirstMisplaced, IsFirstRepeated, IsTree, child_of, id_at, parent_of};
 
 use crate::ends::subtree_ends;
 use crate::fault::TreeFault;
@@ -16,6 +16,7 @@ pub struct Tree {
     nodes: Vec<Node>,
     /// For each node the number after the last node below it.
     ends: Vec<u32>,
+    /// The nodes by their ids.
     ids: Names,
     /// For each node its children by their keys.
     children: Vec<Names>,
@@ -35,7 +36,7 @@ impl Model for Tree {
 }
 
 impl Tree {
-    /// The tree of these rows, in the time of O(n log n) comparisons of names.
+    /// The tree of these rows. It costs O(n log n) comparisons of names, and copies each key and id.
     pub fn build(alloc: Global, rows: NodeRows) -> Result<Tree, TreeFault>
         requires some { 0 < length rows }
         requires few { length rows < 2 ^ 32 }
@@ -45,9 +46,9 @@ impl Tree {
         ensures ok { OnOk result (IsTree rows) }
 
         // Otherwise the first misplaced row, and only where there is none the first repeated id.
-        ensures no_node { (n : ℕ) → (result ≡ Err (TreeFault.NoNode n)) ↔ IsFirstBreach (IsRow rows) (length rows) n }
-        ensures rows_first { (n : ℕ) → result ≡ Err (TreeFault.DoubleId n) → (k : ℕ) → k < length rows → IsRow rows k }
-        ensures double_id { (n : ℕ) → result ≡ Err (TreeFault.DoubleId n) → IsFirstBreach (HasNewId rows) (length rows) n }
+        ensures no_node { (n : ℕ) → (result ≡ Err (TreeFault.NoNode n)) ↔ IsFirstMisplaced rows n }
+        ensures rows_first { (n : ℕ) → result ≡ Err (TreeFault.DoubleId n) → AreRows rows }
+        ensures double_id { (n : ℕ) → result ≡ Err (TreeFault.DoubleId n) → IsFirstRepeated rows n }
     {
         let nodes = rows.into_vec();
         if let Some(n) = first_misplaced(&nodes) {

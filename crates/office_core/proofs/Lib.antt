@@ -1,0 +1,4 @@
+pub mod QueueLemmas
+pub mod StepLemmas
+pub mod RunLemmas
+pub mod LawLemmas

@@ -1,0 +1,7 @@
+pub mod Flat
+pub mod Office
+pub mod View
+pub mod Plan
+pub mod Shown
+pub mod Runs
+pub mod Laws
