@@ -17,7 +17,7 @@ pub use laws::{
 };
 pub use office::{Claim, Core, Event, FlatValue, Plan, Refused, StepRefused};
 pub use request::{Ask, Reply, Request, Word};
-pub use request_line::{LineFault, read_request};
+pub use request_line::{LineFault, read_number, read_request};
 
 #[cfg(test)]
 mod tests;

@@ -4,7 +4,7 @@ ghost use Rattle.std.specs.VecDeque.{deque_capacity};
 ghost use Rattle.office_core.specs.Flat.{state_after};
 ghost use Rattle.office_core.specs.Office.{empty_office, started, sent, machine_of, is_given, with_new, with_letter, with_step, first_ready, value_of, shown_state, next_state};
 ghost use Rattle.office_core.specs.Plan.{Fits, FitsBegin, HasLetterRoom, put, reply_of, Stays, IsPlanFor, IsDecided, IsStep, IsRefusedStep};
-ghost use Rattle.office_core.specs.Shown.{shown_as};
+ghost use Rattle.office_core.specs.Shown.{shown_as, IsTextShown};
 ghost use Rattle.office_core.specs.View.{without_first, moved_seat};
 
 use crate::flat::{FlatMachine, FlatMachines};
@@ -208,7 +208,8 @@ impl Core {
 
     /// What is shown of an actor. It takes no memory.
     pub fn value(&self, actor: u64) -> FlatValue<'_>
-        ensures { shown_as result ≡ value_of self.now.machines self.now.office actor }
+        ensures shown { shown_as result ≡ value_of self.now.machines self.now.office actor }
+        ensures text { IsTextShown result }
     {
         let Some(seat) = seat_of(self.seats.as_slice(), actor) else {
             return FlatValue::Never;
@@ -376,7 +377,8 @@ fn seat_of(seats: &[Seat], actor: u64) -> Option<&Seat>
 }
 
 fn shown_state(machine: Option<&FlatMachine>, state: Option<u32>) -> FlatValue<'_>
-    ensures { shown_as result ≡ shown_state (option_copied machine.entry) state }
+    ensures shown { shown_as result ≡ shown_state (option_copied machine.entry) state }
+    ensures text { IsTextShown result }
 {
     let Some(place) = state else {
         return FlatValue::Waiting;
@@ -385,7 +387,7 @@ fn shown_state(machine: Option<&FlatMachine>, state: Option<u32>) -> FlatValue<'
         return FlatValue::Waiting;
     };
     match machine.states.get(place as usize) {
-        Some(state) => FlatValue::Key(state.key.as_bytes()),
+        Some(state) => FlatValue::Key(state.key.as_str().as_bytes()),
         None => FlatValue::Waiting,
     }
 }

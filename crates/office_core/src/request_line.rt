@@ -214,7 +214,7 @@ fn are_caller_bytes(bytes: &[u8]) -> bool
 }
 
 // The number that the bytes spell in decimal, with no leading zero.
-fn read_number(bytes: &[u8]) -> Result<u64, LineFault>
+pub fn read_number(bytes: &[u8]) -> Result<u64, LineFault>
     ensures { Reads (IsNumber bytes.now) result }
 {
     // `parse` would take a plus and leading zeros.

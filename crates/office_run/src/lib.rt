@@ -1,15 +1,14 @@
-//! Stands in for the top call until it is merged.
+//! The program: it takes the words of the command line, the definitions and a station, and answers the status.
 #![tactic(auto)]
 
-use std::alloc::Global;
-use std::rc::RcStr;
-use xs_outside::{Ended, Source, Station};
+mod command;
+mod definitions;
+mod input;
+mod line_buffer;
+mod program;
+mod replies;
+mod script;
+mod status;
 
-pub fn run<S: Source, W: Station>(
-    _alloc: Global,
-    _words: &[RcStr],
-    _defs: &mut S,
-    station: W,
-) -> Ended<W> {
-    Ended { status: 8, station }
-}
+pub use command::{Command, WordsFault, words};
+pub use program::run;

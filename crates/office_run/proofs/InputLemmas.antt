@@ -1,0 +1,245 @@
+-- What is known of the bytes of an input.
+use Rattle.std.proofs.Common.{◌≡◌, ℕ, zero, suc, Bool, true, false, ltb, ◌+◌, ◌-◌, ◌<◌, ◌≤◌, List, [], ◌∷◌, ◌++◌, length, take, drop, Option, None, Some, refl, sym, ap, ◌∙◌, inl, inr, arith, append_assoc, length-drop, length-append}
+use Rattle.std.specs.Io.KnownBytes.{prepend_known, IsAtEnd}
+use Rattle.std.specs.Prelude.{position}
+use Rattle.std.specs.List.{position_or_len}
+use Rattle.std.proofs.lemmas.Bool.Decides.{nat_tests}
+use Rattle.office_run.specs.declared.line_buffer.LineBuffer.{LineBuffer}
+use Rattle.office_run.specs.Lines.{is_feed, has_feed}
+use Rattle.office_run.specs.declared.input.Next.TheVariants as next
+use Rattle.office_run.specs.declared.input.Fill.TheVariants as fill
+use Rattle.office_run.specs.Input.{Taken, Holds, Extends, IsReading, Moves, Fills, Gives, limit}
+use Rattle.std.proofs.lemmas.List.{drop-take, drop-drop, take-take, take_at, length-take, length-take-le}
+
+-- by both values of a test
+pub by_test : {P : Type 0} (b : Bool) → (b ≡ true → P) → (b ≡ false → P) → P
+by_test true when otherwise = when refl
+by_test false when otherwise = otherwise refl
+
+-- nothing is put before
+pub prepend-nothing : (known : Option (List ℕ)) → prepend_known [] known ≡ known
+prepend-nothing None = refl
+prepend-nothing (Some bytes) = refl
+
+-- one after another is both at once
+pub prepend-both : (a b : List ℕ) (known : Option (List ℕ)) → prepend_known a (prepend_known b known) ≡ prepend_known (a ++ b) known
+prepend-both a b None = refl
+prepend-both a b (Some bytes) = ap Some (sym (append_assoc a b bytes))
+
+pub taken-piece : (count room : ℕ) (piece : List ℕ) → count ≤ room → take (count - 0) (drop 0 piece) ≡ take count (take room piece)
+taken-piece count room piece within = ap (λ n. take n piece) (omega arith) ∙ sym (take-take count room piece within)
+
+-- how many bytes wait between two places
+pub window-length : (start end : ℕ) (piece : List ℕ) → start ≤ end → end ≤ length piece → length (take (end - start) (drop start piece)) ≡ end - start
+window-length start end piece ordered within = length-take-le (end - start) (drop start piece) (omega (arith, length-drop start piece))
+
+-- the front of a piece that was written over is what was written
+pub written-front : (room len : ℕ) (into piece : List ℕ) → length into ≡ room → room ≤ len → take room (take len (into ++ drop (length into) piece)) ≡ into
+written-front room len into piece long within = take-take room len (into ++ drop (length into) piece) within ∙ take_at into (drop (length into) piece) room long
+
+-- ---- the first line feed
+
+position-some : (xs : List ℕ) (place : ℕ) → position is_feed xs ≡ Some place → (position_or_len is_feed xs ≡ place) × (place < length xs)
+position-some xs place found = by_test (ltb (position_or_len is_feed xs) (length xs))
+    (λ e.
+    let found' : Some (position_or_len is_feed xs) ≡ Some place = rw e at found in
+    let same : position_or_len is_feed xs ≡ place = cc in
+    (same, rw (← same) (grind (arith, nat_tests))))
+    (λ e. let found' : None ≡ Some place = rw e at found in absurd (cc))
+
+position-none : (xs : List ℕ) → position is_feed xs ≡ None → length xs ≤ position_or_len is_feed xs
+position-none xs none = by_test (ltb (position_or_len is_feed xs) (length xs))
+    (λ e. let none' : Some (position_or_len is_feed xs) ≡ None = rw e at none in absurd (cc))
+    (λ e. grind (arith, nat_tests))
+
+split-feed : (xs : List ℕ) → position_or_len is_feed xs < length xs →
+    (xs ≡ take (position_or_len is_feed xs) xs ++ 10 ∷ drop (suc (position_or_len is_feed xs)) xs) × (has_feed (take (position_or_len is_feed xs) xs) ≡ false)
+split-feed [] within = absurd (omega arith)
+split-feed (x ∷ xs) within = by_test (is_feed x)
+    (λ e. let feed : x ≡ 10 = grind (arith, nat_tests) in simp e (ap (λ y. y ∷ xs) feed, refl))
+    (λ e.
+    let next : 1 + position_or_len is_feed xs ≡ suc (position_or_len is_feed xs) = omega arith in
+    let rest = split-feed xs (let w : 1 + position_or_len is_feed xs < suc (length xs) = simp e at within in omega arith) in
+    simp (e, next) (ap (λ ys. x ∷ ys) rest.0, rest.1))
+
+none-feed : (xs : List ℕ) → length xs ≤ position_or_len is_feed xs → has_feed xs ≡ false
+none-feed [] past = refl
+none-feed (x ∷ xs) past = by_test (is_feed x)
+    (λ e. let p : suc (length xs) ≤ 0 = simp e at past in absurd (omega arith))
+    (λ e. let p : suc (length xs) ≤ 1 + position_or_len is_feed xs = simp e at past in simp e (none-feed xs (omega arith)))
+
+-- where the first line feed stands: the bytes before it have none
+pub feed-some : (xs : List ℕ) (place : ℕ) → position is_feed xs ≡ Some place → (xs ≡ take place xs ++ 10 ∷ drop (place + 1) xs) × (has_feed (take place xs) ≡ false) × (place < length xs)
+feed-some xs place found =
+    let p = position-some xs place found in
+    let s = split-feed xs (omega (arith, p.0, p.1)) in
+    let next : suc place ≡ place + 1 = omega arith in
+    (rw (← next) (rw (← p.0) s.0), rw (← p.0) s.1, p.1)
+
+pub feed-none : (xs : List ℕ) → position is_feed xs ≡ None → has_feed xs ≡ false
+feed-none xs none = none-feed xs (position-none xs none)
+
+-- what waits behind the first bytes of what waits
+pub window-drop : (start end k : ℕ) (piece : List ℕ) → start + k ≤ end → drop k (take (end - start) (drop start piece)) ≡ take (end - (start + k)) (drop (start + k) piece)
+window-drop start end k piece within =
+    let parts : end - start ≡ k + (end - (start + k)) = omega arith in
+    rw parts (drop-take k (end - (start + k)) (drop start piece) ∙ ap (take (end - (start + k))) (drop-drop k start piece))
+
+-- ---- a line that is being read
+
+pub has_feed-append : (a b : List ℕ) → has_feed a ≡ false → has_feed b ≡ false → has_feed (a ++ b) ≡ false
+has_feed-append [] b none none' = none'
+has_feed-append (x ∷ a) b none none' = by_test (is_feed x)
+    (λ e. let no : true ≡ false = rw e at none in absurd (cc))
+    (λ e. let rest : has_feed a ≡ false = rw e at none in rw e (has_feed-append a b rest none'))
+
+-- the front of two lists
+take-append : (n : ℕ) (a b : List ℕ) → take n (a ++ b) ≡ take n a ++ take (n - length a) b
+take-append zero a b = ap (λ m. take m b) (let none : 0 ≡ 0 - length a = omega arith in none)
+take-append (suc n) [] b = let same : suc n ≡ suc n - 0 = omega arith in ap (λ m. take m b) same
+take-append (suc n) (x ∷ a) b = ap (λ xs. x ∷ xs) (take-append n a b) ∙ ap (λ m. (x ∷ take n a) ++ take m b) (let same : n - length a ≡ suc n - suc (length a) = omega arith in same)
+
+pub holds-more : (buffer buffer' : LineBuffer) (seen more : List ℕ) → Holds buffer seen → Extends buffer buffer' more → Holds buffer' (seen ++ more)
+holds-more buffer buffer' seen more holds extends =
+    let kept = ap length holds.bytes ∙ length-take 65536 seen in
+    let room : 65536 - length buffer.bytes.items ≡ 65536 - length seen = omega (arith, kept) in
+    record {
+      len = omega (arith, extends.len, holds.len, length-append seen more);
+      bytes = extends.bytes ∙ ap (λ front. front ++ take (65536 - length buffer.bytes.items) more) holds.bytes
+          ∙ ap (λ n. take 65536 seen ++ take n more) room ∙ sym (take-append 65536 seen more);
+    }
+
+-- all that waited went to the line
+pub read-on : (first now mid : Taken) (buffer buffer' : LineBuffer) (left left' : Option (List ℕ)) (before after : ℕ) →
+    IsReading first now buffer left left' before after → Moves false now mid buffer buffer' → IsReading first mid buffer' left left' before after × (mid.pending ≡ [])
+read-on first now mid buffer buffer' left left' before after r m =
+    let used : mid.used ≡ now.used + length now.pending = ap (λ t. t.used) m.2 in
+    let pending : mid.pending ≡ [] = ap (λ t. t.pending) m.2 in
+    let none : length mid.pending ≡ 0 = ap length pending in
+    let long = length-append r.seen now.pending in (
+      record {
+        seen = r.seen ++ now.pending;
+        no_feed = has_feed-append r.seen now.pending r.no_feed m.0;
+        holds = holds-more buffer buffer' r.seen now.pending r.holds m.1;
+        whole = r.whole ∙ prepend-both r.seen now.pending left' ∙ ap (prepend_known (r.seen ++ now.pending)) (sym (ap (λ p. prepend_known p left') pending ∙ prepend-nothing left'));
+        used = omega (arith, used, r.used, long);
+        counted = omega (arith, used, none, r.counted);
+        limited = omega (arith, used, none, r.limited);
+        began = r.began;
+        ended = ap (λ t. t.ended) m.2 ∙ r.ended;
+      },
+      pending,
+    )
+
+-- the next piece came
+pub read-piece : (first mid new : Taken) (buffer : LineBuffer) (left left' left'' : Option (List ℕ)) (before after after' : ℕ) →
+    IsReading first mid buffer left left' before after → mid.pending ≡ [] → Fills fill.More mid new left' left'' after after' → IsReading first new buffer left left'' before after'
+read-piece first mid new buffer left left' left'' before after after' r empty f =
+    let none : length mid.pending ≡ 0 = ap length empty in
+    record {
+      seen = r.seen;
+      no_feed = r.no_feed;
+      holds = r.holds;
+      whole = r.whole ∙ ap (prepend_known r.seen) (ap (λ p. prepend_known p left') empty ∙ prepend-nothing left' ∙ f.0);
+      used = omega (arith, f.2, r.used);
+      counted = omega (arith, f.5, r.counted, none);
+      limited = f.4;
+      began = r.began;
+      ended = f.3 ∙ r.ended;
+    }
+
+-- ---- what comes next
+
+pub gives-fed : (first now new : Taken) (buffer buffer' : LineBuffer) (left left' : Option (List ℕ)) (before after : ℕ) →
+    IsReading first now buffer left left' before after → Moves true now new buffer buffer' → Gives next.Line first new buffer' left left' before after
+gives-fed first now new buffer buffer' left left' before after r m =
+    let more = m.0 in
+    let long = length-append r.seen more in
+    let waits : length now.pending ≡ length more + (1 + length new.pending) = ap length m.1 ∙ length-append more (10 ∷ new.pending) ∙ ap (λ n. length more + n) (omega arith) in (
+      r.seen ++ more,
+      holds-more buffer buffer' r.seen more r.holds m.3,
+      (
+        has_feed-append r.seen more r.no_feed m.2,
+        r.began,
+        inl (
+          r.whole ∙ ap (λ p. prepend_known r.seen (prepend_known p left')) m.1 ∙ ap (prepend_known r.seen) (sym (prepend-both more (10 ∷ new.pending) left'))
+              ∙ prepend-both r.seen more (prepend_known (10 ∷ new.pending) left') ∙ ap (prepend_known (r.seen ++ more)) (sym (prepend-both (10 ∷ []) new.pending left')),
+          omega (arith, r.used, m.4, long),
+          m.5 ∙ r.ended,
+        ),
+      ),
+      omega (arith, r.counted, m.4, waits),
+      omega (arith, r.limited, m.4, waits),
+    )
+
+pub gives-last : (first mid new : Taken) (buffer : LineBuffer) (left left' left'' : Option (List ℕ)) (before after after' : ℕ) →
+    IsReading first mid buffer left left' before after → mid.pending ≡ [] → Fills fill.End mid new left' left'' after after' → 0 < buffer.len → Gives next.Line first new buffer left left'' before after'
+gives-last first mid new buffer left left' left'' before after after' r empty f some =
+    let none : length mid.pending ≡ 0 = ap length empty in
+    let used : new.used ≡ mid.used = ap (λ t. t.used) f.2 in
+    let pending : new.pending ≡ [] = ap (λ t. t.pending) f.2 in
+    let none' : length new.pending ≡ 0 = ap length pending in (
+      r.seen,
+      r.holds,
+      (
+        r.no_feed,
+        r.began,
+        inr (
+          r.whole ∙ ap (prepend_known r.seen) (ap (λ p. prepend_known p left') empty ∙ prepend-nothing left' ∙ sym f.0),
+          record { no_feed = r.no_feed; used = omega (arith, r.used, used); pending = pending },
+          rw f.0 f.1,
+          omega (arith, r.holds.len, some),
+          ap (λ t. t.ended) f.2,
+        ),
+      ),
+      omega (arith, r.counted, f.3, used, none, none'),
+      omega (arith, r.limited, used, none, none'),
+    )
+
+pub gives-end : (first mid new : Taken) (buffer : LineBuffer) (left left' left'' : Option (List ℕ)) (before after after' : ℕ) →
+    IsReading first mid buffer left left' before after → mid.pending ≡ [] → Fills fill.End mid new left' left'' after after' → buffer.len ≡ 0 → Gives next.End first new buffer left left'' before after'
+gives-end first mid new buffer left left' left'' before after after' r empty f none_yet =
+    let none : length mid.pending ≡ 0 = ap length empty in
+    let used : new.used ≡ mid.used = ap (λ t. t.used) f.2 in
+    let none' : length new.pending ≡ 0 = ap (λ t. length t.pending) f.2 in
+    let unseen = empty_list r.seen (omega (arith, r.holds.len, none_yet)) in
+    let whole = r.whole ∙ ap (λ s. prepend_known s (prepend_known mid.pending left')) unseen ∙ prepend-nothing (prepend_known mid.pending left') ∙ ap (λ p. prepend_known p left') empty ∙ prepend-nothing left' in
+    (inl (rw whole f.1), omega (arith, r.counted, f.3, used, none, none'), omega (arith, r.limited, used, none, none'))
+  where
+    empty_list : (xs : List ℕ) → length xs ≡ 0 → xs ≡ []
+    empty_list [] e = refl
+    empty_list (x ∷ xs) e = absurd (omega arith)
+
+pub gives-too_much : (first mid new : Taken) (buffer : LineBuffer) (left left' left'' : Option (List ℕ)) (before after after' : ℕ) →
+    IsReading first mid buffer left left' before after → mid.pending ≡ [] → Fills fill.TooMuch mid new left' left'' after after' → Gives next.TooMuch first new buffer left left'' before after'
+gives-too_much first mid new buffer left left' left'' before after after' r empty f =
+    let none : length mid.pending ≡ 0 = ap length empty in
+    let used : new.used ≡ mid.used = ap (λ t. t.used) f.3 in
+    let pending : new.pending ≡ [] = ap (λ t. t.pending) f.3 ∙ empty in (
+      (
+        r.seen,
+        f.0,
+        record { no_feed = r.no_feed; used = omega (arith, r.used, used); pending = pending },
+        r.whole ∙ ap (prepend_known r.seen) (ap (λ p. prepend_known p left') empty ∙ prepend-nothing left' ∙ f.1),
+        r.began,
+        omega (arith, used, f.2, none),
+      ),
+      omega (arith, r.counted, f.2, f.4, none),
+    )
+
+pub gives-failed : (first mid new : Taken) (buffer : LineBuffer) (left left' left'' : Option (List ℕ)) (before after after' : ℕ) →
+    IsReading first mid buffer left left' before after → mid.pending ≡ [] → Fills fill.Failed mid new left' left'' after after' → Gives next.Failed first new buffer left left'' before after'
+gives-failed first mid new buffer left left' left'' before after after' r empty f =
+    let none : length mid.pending ≡ 0 = ap length empty in
+    let used : new.used ≡ mid.used = ap (λ t. t.used) f.1 in
+    let pending : new.pending ≡ [] = ap (λ t. t.pending) f.1 ∙ empty in
+    let none' : length new.pending ≡ 0 = ap length pending in (
+      (
+        r.seen,
+        record { no_feed = r.no_feed; used = omega (arith, r.used, used); pending = pending },
+        r.whole ∙ ap (prepend_known r.seen) (ap (λ p. prepend_known p left') empty ∙ prepend-nothing left' ∙ sym f.0),
+        r.began,
+        omega (arith, r.limited, used, none),
+      ),
+      omega (arith, r.counted, f.2, used, none, none'),
+    )

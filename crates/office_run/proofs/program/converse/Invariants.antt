@@ -1,0 +1,17 @@
+use Rattle.std.proofs.Common.{◌≡◌, ◌≤◌, ◌+◌, ◌-◌, [], false, length}
+use Rattle.office_run.specs.Input.{limit}
+use Rattle.office_run.specs.Step.{Moment}
+use Rattle.office_run.specs.Progress.{IsUnderWay}
+use Rattle.office_run.proofs.program.converse.Given as goal
+
+abbrev pub invariant-lines : goal.invariant-lines
+invariant-lines g l =
+    let start : Moment = record { office = l.fn.core.office; input = record { used = 0; pending = []; ended = false }; left = g.W.Source.left l.fn.station; taken = g.W.Source.taken l.fn.station; written = g.W.Sink.written l.fn.station } in
+    let now : Moment = record { office = l.core.office; input = l.input; left = g.W.Source.left l.station; taken = g.W.Source.taken l.station; written = g.W.Sink.written l.station } in
+    IsUnderWay l.fn.core.machines start now
+    × (l.core.machines ≡ l.fn.core.machines)
+    × (g.W.Source.read_faults l.fn.station ≤ g.W.Source.read_faults l.station)
+    × (g.W.Sink.write_faults l.fn.station ≤ g.W.Sink.write_faults l.station)
+
+abbrev pub decreases-lines : goal.decreases-lines
+decreases-lines g l = limit + 1 - l.input.used

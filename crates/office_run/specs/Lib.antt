@@ -1,0 +1,10 @@
+pub mod Lines
+pub mod Input
+pub mod Words
+pub mod Script
+pub mod Answers
+pub mod Status
+pub mod Definitions
+pub mod Step
+pub mod Run
+pub mod Progress

@@ -1,0 +1,97 @@
+ghost use Rattle.std.specs.Prelude.{◌≡◌, ◌+◌, ◌≤◌, ◌↔◌, Err, IfOk, IsTrue};
+ghost use Rattle.xs_outside.specs.Counts.{Rose};
+ghost use Rattle.office_run.specs.Definitions.{ReadsDefinitions, TakesText, ReadsText, text_limit};
+
+use crate::input::{new_piece, read_piece};
+use office_core::{FlatFault, FlatMachines, read_flat};
+use ordered_json::laws::meaning_is_unique;
+use ordered_json::{JsonFault, read};
+use std::alloc::{AllocError, Global};
+use thiserror::Error;
+use xs_outside::{Got, Source};
+
+/// The longest definitions text, in bytes, and one byte more.
+const TEXT_LIMIT: usize = 1_048_577;
+
+/// Why there are no definitions.
+#[derive(Clone, Copy, Debug, PartialEq, Eq, Error)]
+pub enum DefinitionsFault {
+    /// The text is no office of flat machines.
+    #[error("the definitions are refused")]
+    Refused,
+    /// The source failed.
+    #[error("the definitions can't be read")]
+    Failed,
+    #[error("out of memory")]
+    Memory,
+}
+
+impl From<AllocError> for DefinitionsFault {
+    ghost use Rattle.office_run.specs.declared.definitions.DefinitionsFault.TheVariants.{Memory};
+
+    ghost from_gives = { λ _ fault. fault ≡ Memory };
+
+    fn from(_error: AllocError) -> DefinitionsFault {
+        DefinitionsFault::Memory
+    }
+}
+
+/// Reads the definitions from a source. It takes at most 1,048,577 bytes.
+pub fn read_definitions<S: Source>(
+    alloc: Global,
+    source: &mut S,
+) -> Result<FlatMachines, DefinitionsFault>
+    ensures reads { ReadsDefinitions result (S.left source.old) }
+    ensures taken { S.taken source.new ≤ S.taken source.old + text_limit }
+    ensures later { S.read_faults source.old ≤ S.read_faults source.new }
+    ensures cause { result ≡ Err DefinitionsFault.Failed → Rose (S.read_faults source.old) (S.read_faults source.new) }
+{
+    let text = take_text(alloc, source)?;
+    machines_of(alloc, text.as_slice())
+}
+
+// The machines that a text means.
+fn machines_of(alloc: Global, text: &[u8]) -> Result<FlatMachines, DefinitionsFault>
+    ensures reads { ReadsText result text.now }
+    ensures cause { result ≡ Err DefinitionsFault.Failed → ⊥ }
+{
+    meaning_is_unique();
+    let json = match read(alloc, text) {
+        Ok(json) => json,
+        Err(fault) if is_memory(&fault) => return Err(DefinitionsFault::Memory),
+        Err(_) => return Err(DefinitionsFault::Refused),
+    };
+    match read_flat(alloc, &json) {
+        Ok(machines) => Ok(machines),
+        Err(FlatFault::NotFlat) => Err(DefinitionsFault::Refused),
+        Err(FlatFault::Memory) => Err(DefinitionsFault::Memory),
+    }
+}
+
+// Whether a fault is want of memory, and none of the text's own.
+fn is_memory(fault: &JsonFault) -> bool
+    ensures { IsTrue result ↔ (fault.now ≡ JsonFault.Memory) }
+{
+    matches!(fault, JsonFault::Memory)
+}
+
+// Takes the bytes of a source, to its end or the limit.
+fn take_text<S: Source>(alloc: Global, source: &mut S) -> Result<Vec<u8>, DefinitionsFault>
+    ensures text { IfOk result (λ text. TakesText text.items (S.left source.old) (S.left source.new)) }
+    ensures taken { S.taken source.new ≤ S.taken source.old + text_limit }
+    ensures later { S.read_faults source.old ≤ S.read_faults source.new }
+    ensures refused { result ≡ Err DefinitionsFault.Refused → ⊥ }
+    ensures cause { result ≡ Err DefinitionsFault.Failed → Rose (S.read_faults source.old) (S.read_faults source.new) }
+{
+    let mut text = Vec::new(alloc);
+    let mut piece = new_piece(alloc)?;
+    'pieces: while text.len() < TEXT_LIMIT {
+        let room = (TEXT_LIMIT - text.len()).min(piece.len());
+        match read_piece(source, &mut piece, room) {
+            Got::Bytes(count) => text.extend_from_slice(&piece[..count])?,
+            Got::End => return Ok(text),
+            Got::Failed => return Err(DefinitionsFault::Failed),
+        }
+    }
+    Ok(text)
+}

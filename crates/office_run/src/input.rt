@@ -1,0 +1,203 @@
+ghost use Rattle.std.specs.Prelude.{◌≡◌, ◌+◌, ◌<◌, ◌≤◌, ◌^◌, [], length, take, false, position, vec_len, OnErr, IfOk};
+ghost use Rattle.office_run.specs.Input.{Fills, Moves, Gives, limit};
+ghost use Rattle.office_run.specs.Lines.{is_feed};
+ghost use Rattle.xs_outside.specs.Counts.{Rose};
+ghost use Rattle.xs_outside.specs.Streams.{ReadGives, bytes_given};
+
+use crate::line_buffer::LineBuffer;
+use std::alloc::{AllocError, Global};
+use std::marker::Model;
+use xs_outside::{Both, Got, Source};
+
+/// A run takes at most this many bytes of its input, and one more to see that there are more.
+const INPUT_LIMIT: u64 = 1 << 30;
+
+/// How many bytes are asked for at once.
+const PIECE: usize = 65_536;
+
+/// What comes next in the input.
+#[derive(Clone, Copy, Debug, PartialEq, Eq)]
+pub enum Next {
+    /// A line, in the buffer.
+    Line,
+    /// The end: no byte is left.
+    End,
+    /// More bytes than a run takes.
+    TooMuch,
+    /// The source failed.
+    Failed,
+    /// Memory was wanted.
+    Memory,
+}
+
+/// What came of asking the source.
+#[derive(Clone, Copy, Debug, PartialEq, Eq)]
+enum Fill {
+    More,
+    End,
+    TooMuch,
+    Failed,
+}
+
+/// The input of a run, taken in pieces and cut into lines as they come. It keeps one piece.
+#[derive(Debug, Drop)]
+pub struct Input {
+    piece: Vec<u8>,
+    start: usize,
+    end: usize,
+    taken: u64,
+    ended: bool,
+}
+
+impl Model for Input {
+    ghost use Rattle.std.specs.Prelude.{◌-◌, take, drop, vec_len};
+    ghost use Rattle.office_run.specs.Input.{Taken, IsHeld};
+
+    ghost Value = { Taken };
+
+    ghost view = { λ i. record {
+      used = i.taken - (i.end - i.start);
+      pending = take (i.end - i.start) (drop i.start i.piece.items);
+      ended = i.ended;
+    } };
+
+    ghost invariant = { λ i. IsHeld i.start i.end (vec_len i.piece) i.taken };
+}
+
+impl Input {
+    /// The input before its first byte, with room for a piece.
+    pub fn new(alloc: Global) -> Result<Input, AllocError>
+        ensures { IfOk result (λ input. input ≡ record { used = 0; pending = []; ended = false }) }
+    {
+        Ok(Input {
+            piece: new_piece(alloc)?,
+            start: 0,
+            end: 0,
+            taken: 0,
+            ended: false,
+        })
+    }
+
+    /// Reads the next line into the buffer. Each byte is looked at once.
+    pub fn next_line<S: Both>(&mut self, source: &mut S, line: &mut LineBuffer) -> Next
+        requires { self.old.used + length self.old.pending ≤ limit }
+        ensures gives { Gives result self.old self.new line.new (S.left source.old) (S.left source.new) (S.taken source.old) (S.taken source.new) }
+        ensures untouched { (S.written source.new ≡ S.written source.old) × (S.write_faults source.new ≡ S.write_faults source.old) }
+        ensures later { S.read_faults source.old ≤ S.read_faults source.new }
+        ensures cause { result ≡ Next.Failed → Rose (S.read_faults source.old) (S.read_faults source.new) }
+    {
+        line.clear();
+        if self.ended {
+            return Next::End;
+        }
+        'pieces: loop {
+            match self.move_to(line) {
+                Ok(true) => return Next::Line,
+                Ok(false) => {}
+                Err(_) => return Next::Memory,
+            }
+            match self.fill(source) {
+                Fill::More => {}
+                Fill::End if line.len == 0 => return Next::End,
+                Fill::End => return Next::Line,
+                Fill::TooMuch => return Next::TooMuch,
+                Fill::Failed => return Next::Failed,
+            }
+        }
+    }
+
+    // Moves the bytes up to the next line feed to the line, and tells whether there was one, which it drops.
+    fn move_to(&mut self, line: &mut LineBuffer) -> Result<bool, AllocError>
+        requires { line.old.len + length self.old.pending < 2 ^ 64 }
+        ensures ok { IfOk result (λ fed. Moves fed self.old self.new line.old line.new) }
+        ensures err { OnErr result (self.new ≡ self.old) }
+    {
+        let pending = &self.piece[self.start..self.end];
+        match place_of_feed(pending) {
+            Some(place) => {
+                line.push(&pending[..place])?;
+                self.start += place + 1;
+                Ok(true)
+            }
+            None => {
+                line.push(pending)?;
+                self.start = self.end;
+                Ok(false)
+            }
+        }
+    }
+
+    // Takes the next piece, where nothing is pending.
+    fn fill<S: Both>(&mut self, source: &mut S) -> Fill
+        requires { self.old.pending ≡ [] }
+        ensures fills { Fills result self.old self.new (S.left source.old) (S.left source.new) (S.taken source.old) (S.taken source.new) }
+        ensures untouched { (S.written source.new ≡ S.written source.old) × (S.write_faults source.new ≡ S.write_faults source.old) }
+        ensures later { S.read_faults source.old ≤ S.read_faults source.new }
+        ensures cause { result ≡ Fill.Failed → Rose (S.read_faults source.old) (S.read_faults source.new) }
+    {
+        self.start = 0;
+        self.end = 0;
+        let room = (INPUT_LIMIT - self.taken).min(self.piece.len() as u64) as usize;
+        if room == 0 {
+            return self.look_past(source);
+        }
+        match read_piece(source, &mut self.piece, room) {
+            Got::Bytes(count) => {
+                self.end = count;
+                self.taken += count as u64;
+                Fill::More
+            }
+            Got::End => {
+                self.ended = true;
+                Fill::End
+            }
+            Got::Failed => Fill::Failed,
+        }
+    }
+
+    // Sees whether there is a byte past the last one that a run takes.
+    fn look_past<S: Both>(&mut self, source: &mut S) -> Fill
+        requires empty { self.old.pending ≡ [] }
+        requires full { self.old.used ≡ limit }
+        ensures fills { Fills result self.old self.new (S.left source.old) (S.left source.new) (S.taken source.old) (S.taken source.new) }
+        ensures untouched { (S.written source.new ≡ S.written source.old) × (S.write_faults source.new ≡ S.write_faults source.old) }
+        ensures later { S.read_faults source.old ≤ S.read_faults source.new }
+        ensures cause { result ≡ Fill.Failed → Rose (S.read_faults source.old) (S.read_faults source.new) }
+    {
+        match source.read(&mut [0]) {
+            Got::Bytes(_) => Fill::TooMuch,
+            Got::End => {
+                self.ended = true;
+                Fill::End
+            }
+            Got::Failed => Fill::Failed,
+        }
+    }
+}
+
+/// Room for a piece of input.
+pub fn new_piece(alloc: Global) -> Result<Vec<u8>, AllocError>
+    ensures { IfOk result (λ piece. 0 < vec_len piece) }
+{
+    vec![in alloc; 0; PIECE]
+}
+
+/// Reads into the front of a piece.
+pub fn read_piece<S: Source>(source: &mut S, piece: &mut [u8], room: usize) -> Got
+    requires some { 0 < room }
+    requires within { room ≤ length piece.old }
+    ensures gives { ReadGives result (take room piece.new) (S.left source.old) (S.left source.new) }
+    ensures taken { S.taken source.new ≡ S.taken source.old + bytes_given result }
+    ensures later { S.read_faults source.old ≤ S.read_faults source.new }
+    ensures cause { result ≡ Got.Failed → Rose (S.read_faults source.old) (S.read_faults source.new) }
+    ensures relation { S.reads source.old source.new }
+{
+    source.read(&mut piece[..room])
+}
+
+// Where the first line feed stands.
+fn place_of_feed(bytes: &[u8]) -> Option<usize>
+    ensures { result ≡ position is_feed bytes.now }
+{
+    bytes.iter().position(|byte| *byte == b'\n')
+}
