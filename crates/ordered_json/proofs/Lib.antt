@@ -14,3 +14,4 @@ pub mod Values
 pub mod Judged
 pub mod Soundness
 pub mod Verdict
+pub mod Unique

@@ -96,6 +96,12 @@ zero_read : (f minus : Bool) (p : ℕ) (rest : List ℕ) (ls : List Level) (o : 
 zero_read f true p rest ls o x k = by_step (minus_step f p ls o) (by_step (zero_minus (p + 1) p ls o) (by_place {q = p + 2} (omega arith) (k (mode.Zero p true) (zero_mode p true))))
 zero_read f false p rest ls o x k = by_step (zero_step f p ls o) (k (mode.Zero p false) (zero_mode p false))
 
+-- the sign and digits that do not begin with 0
+pub nonzero_read : (f minus : Bool) (b : ℕ) (bs : List ℕ) {p : ℕ} {rest : List ℕ} {ls : List Level} {o : Option OrderedJson} {x : Answer} → b == 48 ≡ false → AreDigits (b ∷ bs) → Answers (p + length (signed minus (b ∷ bs))) rest (Ok (state (mode.Digits p minus (sat (magnitude (b ∷ bs)))) ls o)) x → Answers p (signed minus (b ∷ bs) ++ rest) (Ok (state (awaiting f) ls o)) x
+nonzero_read f true b bs {p} {ls = ls} {o = o} n h a =
+    by_step (minus_step f p ls o) (by_step (first_minus (p + 1) p b ls o n h.0) (digits_read bs (grow 0 b) h.1 (by_place {q = p + length (45 ∷ b ∷ bs)} (omega arith) a)))
+nonzero_read f false b bs {p} {ls = ls} {o = o} n h a = by_step (first_step f p b ls o n h.0) (digits_read bs (grow 0 b) h.1 (by_place {q = p + length (b ∷ bs)} (omega arith) a))
+
 -- the sign and the digits
 pub number_read : (f minus : Bool) (ds : List ℕ) {p : ℕ} {rest : List ℕ} {ls : List Level} {o : Option OrderedJson} {x : Answer} → IsWhole ds
     → ((m : Mode) → IsNumberMode m p minus (magnitude ds) → Answers (p + length (signed minus ds)) rest (Ok (state m ls o)) x)
@@ -104,12 +110,7 @@ number_read f minus [] h k = absurd h
 number_read f minus (b ∷ bs) {p} {rest} {ls} {o} {x} (inl e) k =
     let same : 48 ∷ [] ≡ b ∷ bs = cc in
     subst (λ ds. Follows p minus ds rest ls o x → Answers p (signed minus ds ++ rest) (Ok (state (awaiting f) ls o)) x) same (zero_read f minus p rest ls o x) k
-number_read f true (b ∷ bs) {p} {ls = ls} {o = o} (inr e) k =
-    by_step (minus_step f p ls o) (by_step (first_minus (p + 1) p b ls o e.0 e.1.0)
-    (digits_read bs (grow 0 b) e.1.1 (by_place {q = p + length (45 ∷ b ∷ bs)} (omega arith) (k (mode.Digits p true (sat (fold grow (grow 0 b) bs))) (digits_mode p true (fold grow (grow 0 b) bs))))))
-number_read f false (b ∷ bs) {p} {ls = ls} {o = o} (inr e) k =
-    by_step (first_step f p b ls o e.0 e.1.0)
-    (digits_read bs (grow 0 b) e.1.1 (by_place {q = p + length (b ∷ bs)} (omega arith) (k (mode.Digits p false (sat (fold grow (grow 0 b) bs))) (digits_mode p false (fold grow (grow 0 b) bs)))))
+number_read f minus (b ∷ bs) {p} {ls = ls} {o = o} (inr e) k = nonzero_read f minus b bs e.0 e.1 (k (mode.Digits p minus (sat (magnitude (b ∷ bs)))) (digits_mode p minus (magnitude (b ∷ bs))))
 
 -- the end of a number that fits
 pub number_taken : (place first : ℕ) (minus : Bool) (n : ℕ) (m : Mode) (ls : List Level) (o : Option OrderedJson) → Ready ls → fits minus n ≡ true → end_number place first minus (sat n) (state m ls o) ≡ Ok (finished (Int first (int_value minus n)) ls o)

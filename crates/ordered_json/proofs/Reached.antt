@@ -5,9 +5,9 @@ use Rattle.ordered_json.specs.declared.json.OrderedJson.{OrderedJson}
 use Rattle.ordered_json.specs.declared.level.Level.{Level}
 use Rattle.ordered_json.specs.declared.level.Level.TheVariants as level
 use Rattle.ordered_json.specs.Words.{key_of}
-use Rattle.ordered_json.specs.Grammar.{is_blank, Char, AreChars, IsSpace, print_string, Tree, array, object, no_elements, element, no_members, member, print, lead, IsTree}
+use Rattle.ordered_json.specs.Grammar.{is_blank, Char, AreChars, IsSpace, print_string, Tree, array, object, no_elements, element, no_members, member, print, lead, IsTree, null, IsPrinted}
 use Rattle.ordered_json.specs.Meaning.{content, value_at, has_key, max_depth, IsTaken, HasValue}
-use Rattle.ordered_json.specs.Faults.{BeginsFaultless}
+use Rattle.ordered_json.specs.Faults.{Begins, BeginsFaultless}
 use Rattle.ordered_json.proofs.States.{Ready}
 use Rattle.ordered_json.proofs.Fronts.{Item, comma_after, print_items, AreItems, item_values, close, print-close, are-close, taken-close, Entry, comma_past, print_entries, entry_keys, AreEntries, entry_values, close_members, keys-entries, print-close_members, are-close_members, taken-close_members}
 
@@ -184,22 +184,75 @@ object_with depth p members key key_at text outside a t =
     ∙ (ap (λ w. k.inside.outer ++ 123 ∷ (print_entries k.es ++ (l ++ w))) (append_assoc s n.gap (58 ∷ (a.gap' ++ rest)) ∙ ap (λ w. s ++ w) (sym (append_assoc n.gap (58 ∷ a.gap') rest)))
     ∙ ap (λ w. k.inside.outer ++ 123 ∷ w) (sym (print-close_members k.es (member k.space k.space' n.chars n.gap a.gap' t (no_members [])))))))))
 
-pub plug : (ls : List Level) (text : List ℕ) → Awaits ls text → (t : Tree) → IsTree t → IsTaken (length ls) t → BeginsFaultless (text ++ print t)
-plug [] text a t h taken = ([], value_at (length text) t, (text, t, [], record { white_before = a; well_formed = h; white_after = tt; printed = append_assoc text (print t) [] }, taken, refl))
-plug (level.List p items ∷ ls) text a t h taken =
-    let whole = array (close a.is (element a.space a.space' t (no_elements []))) in
-    let bytes = append_assoc text (print t) (93 ∷ []) ∙ array_with (length ls) p items text (Awaits ls) a t in
-    faultless-front (text ++ print t) (93 ∷ []) (faultless-is (a.inside.outer ++ print whole) ((text ++ print t) ++ 93 ∷ []) (sym bytes)
-    (plug ls a.inside.outer a.inside.stands whole (are-close (suc (length ls)) a.is (element a.space a.space' t (no_elements [])) a.inside.are (a.white, a.white', h, tt))
-    (a.inside.room, taken-close (suc (length ls)) a.is (element a.space a.space' t (no_elements [])) a.inside.are (taken, tt))))
-plug (level.Object p members ∷ ls) text a t h taken = absurd a
-plug (level.Member p members key key_at ∷ ls) text a t h taken =
+-- a text that goes on with a value: the rest of a JSON text, in which nothing is refused where nothing is in the value
+pub record Plugged (text : List ℕ) (t : Tree) (depth : ℕ) : Type 0 where
+  pub rest : List ℕ
+  pub before : List ℕ
+  pub tree : Tree
+  pub after : List ℕ
+  pub is : IsPrinted ((text ++ print t) ++ rest) before tree after
+  pub taken : IsTaken depth t → IsTaken 0 tree
+
+-- the value, and the bracket that closes what stands around it
+widened : (text outer : List ℕ) (t whole : Tree) (d e bracket : ℕ) → (text ++ print t) ++ bracket ∷ [] ≡ outer ++ print whole → (IsTaken d t → IsTaken e whole) → Plugged outer whole e → Plugged text t d
+widened text outer t whole d e bracket bytes taken h = record {
+  rest = bracket ∷ h.rest;
+  before = h.before;
+  tree = h.tree;
+  after = h.after;
+  is = subst (λ w. IsPrinted w h.before h.tree h.after) (ap (λ w. w ++ h.rest) (sym bytes) ∙ append_assoc (text ++ print t) (bracket ∷ []) h.rest) h.is;
+  taken = λ x. h.taken (taken x);
+}
+
+pub plugged : (ls : List Level) (text : List ℕ) → Awaits ls text → (t : Tree) → IsTree t → Plugged text t (length ls)
+plugged [] text a t h = record { rest = []; before = text; tree = t; after = []; is = record { white_before = a; well_formed = h; white_after = tt; printed = append_assoc text (print t) [] }; taken = λ x. x }
+plugged (level.List p items ∷ ls) text a t h =
+    let last = element a.space a.space' t (no_elements []) in
+    let whole = array (close a.is last) in
+    widened text a.inside.outer t whole (suc (length ls)) (length ls) 93
+    (append_assoc text (print t) (93 ∷ []) ∙ array_with (length ls) p items text (Awaits ls) a t)
+    (λ taken. (a.inside.room, taken-close (suc (length ls)) a.is last a.inside.are (taken, tt)))
+    (plugged ls a.inside.outer a.inside.stands whole (are-close (suc (length ls)) a.is last a.inside.are (a.white, a.white', h, tt)))
+plugged (level.Object p members ∷ ls) text a t h = absurd a
+plugged (level.Member p members key key_at ∷ ls) text a t h =
     let n = a.named in
     let k = a.named.awaited in
     let last = member k.space k.space' n.chars n.gap a.gap' t (no_members []) in
     let whole = object (close_members k.es last) in
-    let bytes = append_assoc text (print t) (125 ∷ []) ∙ object_with (length ls) p members key key_at text (Awaits ls) a t in
     let fresh : has_key (content n.chars) (entry_keys k.es) ≡ false = subst (λ ks. has_key (content n.chars) ks ≡ false) (ap (map key_of) k.inside.values ∙ keys-entries (p + 1) k.es) n.fresh in
-    faultless-front (text ++ print t) (125 ∷ []) (faultless-is (k.inside.outer ++ print whole) ((text ++ print t) ++ 125 ∷ []) (sym bytes)
-    (plug ls k.inside.outer k.inside.stands whole (are-close_members (suc (length ls)) k.es last k.inside.are (k.white, k.white', n.are, n.white, a.white', h, tt))
-    (k.inside.room, taken-close_members (suc (length ls)) k.es last k.inside.are (fresh, taken, tt))))
+    widened text k.inside.outer t whole (suc (length ls)) (length ls) 125
+    (append_assoc text (print t) (125 ∷ []) ∙ object_with (length ls) p members key key_at text (Awaits ls) a t)
+    (λ taken. (k.inside.room, taken-close_members (suc (length ls)) k.es last k.inside.are (fresh, taken, tt)))
+    (plugged ls k.inside.outer k.inside.stands whole (are-close_members (suc (length ls)) k.es last k.inside.are (k.white, k.white', n.are, n.white, a.white', h, tt)))
+
+pub plug : (ls : List Level) (text : List ℕ) → Awaits ls text → (t : Tree) → IsTree t → IsTaken (length ls) t → BeginsFaultless (text ++ print t)
+plug ls text a t h taken =
+    let p = plugged ls text a t h in
+    (p.rest, value_at (length p.before) p.tree, (p.before, p.tree, p.after, p.is, p.taken taken, refl))
+
+pub plug_json : (ls : List Level) (text : List ℕ) → Awaits ls text → (t : Tree) → IsTree t → Begins (text ++ print t)
+plug_json ls text a t h = let p = plugged ls text a t h in (p.rest, (p.before, p.tree, p.after, p.is))
+
+-- an object that ends after one more key and `null`, whether it has the key or not
+pub plug_key : (ls : List Level) (q : ℕ) (members : List Member) (text : List ℕ) → KeyAwaits (Awaits ls) (length ls) q members text → (cs : List Char) → AreChars cs → Begins (text ++ print_string cs)
+plug_key ls q members text k cs h =
+    let last = member k.space k.space' cs [] [] null (no_members []) in
+    let whole = object (close_members k.es last) in
+    let l = lead k.space (comma_past k.es) k.space' in
+    let s = print_string cs in
+    let tail = 58 ∷ (print null ++ 125 ∷ []) in
+    let bytes : text ++ (s ++ tail) ≡ k.inside.outer ++ print whole =
+    ap (λ w. w ++ (s ++ tail)) (k.printed ∙ ap (λ w. w ++ l) k.inside.printed)
+    ∙ (append_assoc (k.inside.outer ++ 123 ∷ print_entries k.es) l (s ++ tail)
+    ∙ (append_assoc k.inside.outer (123 ∷ print_entries k.es) (l ++ (s ++ tail))
+    ∙ ap (λ w. k.inside.outer ++ 123 ∷ w) (sym (print-close_members k.es last)))) in
+    let p = plugged ls k.inside.outer k.inside.stands whole (are-close_members (suc (length ls)) k.es last k.inside.are (k.white, k.white', h, tt, tt, tt, tt)) in (
+      tail ++ p.rest,
+      (
+        p.before,
+        p.tree,
+        p.after,
+        subst (λ w. IsPrinted w p.before p.tree p.after)
+            (ap (λ w. w ++ p.rest) (sym bytes) ∙ (ap (λ w. w ++ p.rest) (sym (append_assoc text s tail)) ∙ append_assoc (text ++ s) tail p.rest)) p.is,
+      ),
+    )

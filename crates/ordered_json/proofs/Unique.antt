@@ -1,0 +1,502 @@
+-- A text has at most one first fault, and none where it has a value: the reader answers it.
+use Rattle.std.proofs.Common.{◌≡◌, ◌≢◌, [], ◌∷◌, ◌++◌, ℕ, suc, zero, ◌+◌, ◌<◌, ◌≤◌, Bool, true, false, cond, ◌&&◌, ◌==◌, ◌⊎◌, inl, inr, List, length, take, drop, map, Option, Some, None, Ok, Err, refl, ap, sym, ◌∙◌, arith, subst, append_assoc, append-nil, length-append}
+use Rattle.std.specs.Prelude.{nat_lt}
+use Rattle.std.proofs.Math.Seq.{take-append_seam, take-append-add}
+use Rattle.std.proofs.lemmas.List.{take-append-drop, length-take-le, take-append-le}
+use Rattle.std.proofs.lemmas.Bool.Decides.{nat_tests}
+use Rattle.ordered_json.specs.declared.fault.JsonFault.{JsonFault}
+use Rattle.ordered_json.specs.declared.fault.JsonFault.TheVariants.{Syntax, DoubleKey, Fraction, Range, TooDeep, TooLong, Memory}
+use Rattle.ordered_json.specs.declared.json.Member.{Member}
+use Rattle.ordered_json.specs.declared.json.OrderedJson.{OrderedJson, Text, Int}
+use Rattle.ordered_json.specs.declared.level.Level.{Level}
+use Rattle.ordered_json.specs.declared.level.Level.TheVariants as level
+use Rattle.ordered_json.specs.declared.mode.Mode.{Mode}
+use Rattle.ordered_json.specs.declared.mode.Mode.TheVariants as mode
+use Rattle.ordered_json.specs.declared.mode.Spelled.TheVariants as spelled
+use Rattle.ordered_json.specs.declared.mode.Spelling.{Spelling}
+use Rattle.ordered_json.specs.declared.mode.Spelling.TheVariants as at
+use Rattle.ordered_json.specs.declared.mode.Word.{Word}
+use Rattle.ordered_json.specs.declared.mode.Word.TheVariants as word
+use Rattle.ordered_json.specs.declared.reader.Reader.{Reader}
+use Rattle.ordered_json.specs.Words.{key_of}
+use Rattle.ordered_json.specs.Grammar.{is_decimal, Char, AreChars, IsWhole, signed, print_chars, print_string, number, array, object, no_elements, no_members, Tree, IsTree, print, IsJson}
+use Rattle.ordered_json.specs.Meaning.{magnitude, int_value, fits, content, has_key, max_depth, max_len, IsTaken, HasValue, Means}
+use Rattle.ordered_json.specs.Faults.{Begins, BeginsFaultless, AwaitsValue, AwaitsKey, HasSyntaxFault, HasDoubleKey, is_mark, BeginsWithMark, HasFraction, IsOutOfRange, IsTooDeep, HasFault}
+use Rattle.ordered_json.specs.Steps.{Outcome, after_minus, complete, word_value, go, answer, answer_from, between, after_digits, step, in_word, in_text, letter_at, word_text, is_second, spell, start, and_then}
+use Rattle.ordered_json.proofs.Runs.{Answers, by_step, by_bytes, by_fault}
+use Rattle.ordered_json.proofs.States.{state, Ready, finished, levels_with, root_with, awaiting}
+use Rattle.ordered_json.proofs.Accept.{Answer}
+use Rattle.ordered_json.proofs.Numbers.{sat, grow, IsNumberMode, zero_mode, digits_mode, digit_step, number_read, nonzero_read, number_ends, number_too_large, number_marked, number_refused}
+use Rattle.ordered_json.proofs.Strings.{text_state, below}
+use Rattle.ordered_json.proofs.Trees.{string_read, key_mode, key_refused, list_too_deep, object_too_deep}
+use Rattle.ordered_json.proofs.Reached.{Awaits, KeyAwaits, awaits-ready, faultless-front, plug, plug_json, plug_key}
+use Rattle.ordered_json.proofs.Values.{after_all, after_item, after_entry, named_faultless}
+use Rattle.ordered_json.proofs.Judged.{Reached, r_value, r_first_item, r_first_key, r_key, r_colon, r_after, r_word, r_minus, r_zero, r_digits, r_text, r_key_text, Judges, first_awaits, first_key_awaits}
+use Rattle.ordered_json.proofs.Soundness.{reached_step}
+use Rattle.ordered_json.proofs.Verdict.{answer-value, Follows, Says, answer_says, stops}
+
+-- ---- the reader after the beginning of a text with a value
+record Live (text tail : List ℕ) (json : OrderedJson) : Type 0 where
+  r : Reader
+  reached : Reached text r
+  follows : Follows text r
+  goes : answer_from (length text) tail (Ok r) ≡ Ok json
+
+follows-snoc : (text : List ℕ) (b : ℕ) (r s : Reader) → Follows text r → step (length text) b r ≡ Ok s → Follows (text ++ b ∷ []) s
+follows-snoc text b r s f e = λ more. ap answer (append_assoc text (b ∷ []) more) ∙ (f (b ∷ more) ∙ (ap (answer_from (length text + 1) more) e ∙ ap (λ n. answer_from n more (Ok s)) (sym (length-append text (b ∷ [])))))
+
+live-on : (text : List ℕ) (b : ℕ) (front tail : List ℕ) (json : OrderedJson) (r : Reader) (o : Outcome) → Follows text r → Reached text r → step (length text) b r ≡ o → answer (text ++ b ∷ (front ++ tail)) ≡ Ok json
+    → ((s : Reader) → Reached (text ++ b ∷ []) s → Follows (text ++ b ∷ []) s → answer ((text ++ b ∷ []) ++ (front ++ tail)) ≡ Ok json → Live ((text ++ b ∷ []) ++ front) tail json) → Live (text ++ b ∷ front) tail json
+live-on text b front tail json r (Err fault) f h e a next = let clash : ◌≡◌ {A = Answer} (Ok json) (Err fault) = sym a ∙ stops text b r fault f e (front ++ tail) in absurd (let no : ⊥ = cc in no)
+live-on text b front tail json r (Ok s) f h e a next =
+    subst (λ w. Live w tail json) (append_assoc text (b ∷ []) front)
+    (next s (let P = reached_step text b r h in subst (λ o. Judges text b o) e P) (follows-snoc text b r s f e) (ap answer (append_assoc text (b ∷ []) (front ++ tail)) ∙ a))
+
+live : (front text tail : List ℕ) (json : OrderedJson) (r : Reader) → Reached text r → Follows text r → answer (text ++ (front ++ tail)) ≡ Ok json → Live (text ++ front) tail json
+live [] text tail json r h f a = subst (λ w. Live w tail json) (sym (append-nil text)) (record { r = r; reached = h; follows = f; goes = sym (f tail) ∙ a })
+live (b ∷ front) text tail json r h f a = live-on text b front tail json r (step (length text) b r) f h refl a (λ s g k e. live front (text ++ b ∷ []) tail json s g k e)
+
+live_of : (text tail : List ℕ) (json : OrderedJson) → HasValue (text ++ tail) json → Live text tail json
+live_of text tail json h = live text [] tail json start (r_value tt) (λ rest. refl) (answer-value (text ++ tail) json h)
+
+never : (p : ℕ) (bytes : List ℕ) (r : Reader) {json : OrderedJson} {fault : JsonFault} → answer_from p bytes (Ok r) ≡ Ok json → Answers p bytes (Ok r) (Err fault) → ⊥
+never p bytes r {json} {fault} e a = let clash : ◌≡◌ {A = Answer} (Ok json) (Err fault) = sym e ∙ a.is in cc
+
+-- ---- a line feed stands only between tokens
+no_letter : (w : Word) (n : ℕ) → 10 == letter_at (word_text w) n ≡ false
+no_letter word.Null zero = refl
+no_letter word.Null (suc zero) = refl
+no_letter word.Null (suc (suc zero)) = refl
+no_letter word.Null (suc (suc (suc zero))) = refl
+no_letter word.Null (suc (suc (suc (suc n)))) = refl
+no_letter word.True zero = refl
+no_letter word.True (suc zero) = refl
+no_letter word.True (suc (suc zero)) = refl
+no_letter word.True (suc (suc (suc zero))) = refl
+no_letter word.True (suc (suc (suc (suc n)))) = refl
+no_letter word.False zero = refl
+no_letter word.False (suc zero) = refl
+no_letter word.False (suc (suc zero)) = refl
+no_letter word.False (suc (suc (suc zero))) = refl
+no_letter word.False (suc (suc (suc (suc zero)))) = refl
+no_letter word.False (suc (suc (suc (suc (suc n))))) = refl
+
+no_second : (a : ℕ) → is_second a 10 ≡ false
+no_second a = grind (arith, nat_tests)
+
+no_feed : (s : Spelling) → spell s 10 ≡ spelled.Bad
+no_feed at.Between = refl
+no_feed at.Backslash = refl
+no_feed at.Hex0 = refl
+no_feed (at.Hex1 a) = refl
+no_feed (at.Hex2 a b) = refl
+no_feed (at.Hex3 a b c) = refl
+no_feed (at.High u) = refl
+no_feed (at.HighBackslash u) = refl
+no_feed (at.Low0 u) = refl
+no_feed (at.Low1 u a) = refl
+no_feed (at.Low2 u a b) = refl
+no_feed (at.Low3 u a b c) = refl
+no_feed (at.Lead1 a) = rw (no_second a) refl
+no_feed (at.Lead2 a b) = refl
+no_feed (at.Lead3 a b c) = refl
+
+text_stops : (place p : ℕ) (k : Bool) (s : Spelling) (ls : List Level) (o : Option OrderedJson) (c : List ℕ) → step place 10 (text_state p k s ls o c) ≡ Err (Syntax place)
+unfolding step in_text
+text_stops place p k s ls o c = rw (no_feed s) refl
+
+word_stops : (place p : ℕ) (w : Word) (n : ℕ) (ls : List Level) (o : Option OrderedJson) → step place 10 (state (mode.Word p w n) ls o) ≡ Err (Syntax place)
+unfolding step in_word
+word_stops place p w n ls o = rw (no_letter w n) (by (nat_lt n (length (word_text w))))
+  where
+    by : (x : Bool) → cond (x && false) (cond (n + 1 == length (word_text w)) (complete place (word_value p w) (state (mode.Word p w n) ls o)) (go (mode.Word p w (n + 1)) (state (mode.Word p w n) ls o))) (Err (Syntax place)) ≡ Err (Syntax place)
+    by true = refl
+    by false = refl
+
+-- the same after a number's digits
+number_stops : (p c : ℕ) (rest : List ℕ) (m : Mode) (ls : List Level) (q : ℕ) (minus : Bool) (n : ℕ) → IsNumberMode m q minus n → Ready ls → (step (p + 1) c (finished (Int q (int_value minus n)) ls None) ≡ Err (Syntax (p + 1))) → (fault : JsonFault) × Answers p (10 ∷ c ∷ rest) (Ok (state m ls None)) (Err fault)
+unfolding step between
+number_stops p c rest m ls q minus n is ready e = by (fits minus n) refl
+  where
+    by : (x : Bool) → fits minus n ≡ x → (fault : JsonFault) × Answers p (10 ∷ c ∷ rest) (Ok (state m ls None)) (Err fault)
+    by true f = (Syntax (p + 1), number_ends (10 ∷ c ∷ rest) is ready f refl (by_step refl (by_step e (by_fault refl))))
+    by false f = (Range q, number_too_large (10 ∷ c ∷ rest) is f refl)
+
+-- what may stand before a line feed and a byte that begins a token
+data Before (text : List ℕ) : Reader → Type 0 where
+  before_value : (f : Bool) {ls : List Level} → Awaits ls text → Before text (state (awaiting f) ls None)
+  before_key : (f : Bool) {ls : List Level} {q : ℕ} {members : List Member} → KeyAwaits (Awaits ls) (length ls) q members text → Before text (state (key_mode f) (level.Object q members ∷ ls) None)
+
+-- a byte that goes on after neither a value nor a key
+record IsOpening (c : ℕ) : Type 0 where
+  after_colon : (p : ℕ) (ls : List Level) → step p c (state mode.Colon ls None) ≡ Err (Syntax p)
+  after_value : (p : ℕ) (ls : List Level) (o : Option OrderedJson) → step p c (state mode.After ls o) ≡ Err (Syntax p)
+
+n_opens : IsOpening 110
+unfolding step between
+n_opens = record { after_colon = λ p ls. refl; after_value = λ p ls o. refl }
+
+quote_opens : IsOpening 34
+unfolding step between
+quote_opens = record { after_colon = λ p ls. refl; after_value = λ p ls o. refl }
+
+is_before : (text : List ℕ) (c : ℕ) (rest : List ℕ) (json : OrderedJson) (r : Reader) → IsOpening c → Reached text r → answer_from (length text) (10 ∷ c ∷ rest) (Ok r) ≡ Ok json → Before text r
+unfolding step between after_minus
+is_before text c rest json r opens (r_value a) e = before_value false a
+is_before text c rest json r opens (r_first_item {ls} {p} f) e = before_value true {ls = level.List p [] ∷ ls} (first_awaits ls p text f)
+is_before text c rest json r opens (r_first_key {ls} {p} f) e = before_key true (first_key_awaits ls p text f)
+is_before text c rest json r opens (r_key k) e = before_key false k
+is_before text c rest json r opens (r_colon {ls} {p} {members} {key} {key_at} a) e = absurd (never (length text) (10 ∷ c ∷ rest) r e (by_step refl (by_step (opens.after_colon (length text + 1) (level.Member p members key key_at ∷ ls)) (by_fault refl))))
+is_before text c rest json r opens (r_after (after_all {json = j} h)) e = absurd (never (length text) (10 ∷ c ∷ rest) r e (by_step refl (by_step (opens.after_value (length text + 1) [] (Some j)) (by_fault refl))))
+is_before text c rest json r opens (r_after (after_item {ls} {p} {items} a)) e = absurd (never (length text) (10 ∷ c ∷ rest) r e (by_step refl (by_step (opens.after_value (length text + 1) (level.List p items ∷ ls) None) (by_fault refl))))
+is_before text c rest json r opens (r_after (after_entry {ls} {p} {members} a)) e = absurd (never (length text) (10 ∷ c ∷ rest) r e (by_step refl (by_step (opens.after_value (length text + 1) (level.Object p members ∷ ls) None) (by_fault refl))))
+is_before text c rest json r opens (r_word {ls} {p} {w} {n} h) e = absurd (never (length text) (10 ∷ c ∷ rest) r e (by_step (word_stops (length text) p w n ls None) (by_fault refl)))
+is_before text c rest json r opens (r_minus h) e = absurd (never (length text) (10 ∷ c ∷ rest) r e (by_step refl (by_fault refl)))
+is_before text c rest json r opens (r_zero {ls} {p} {minus} h) e =
+    let s = number_stops (length text) c rest (mode.Zero p minus) ls p minus 0 (zero_mode p minus) (awaits-ready ls h.before h.stands) (opens.after_value (length text + 1) (levels_with (Int p (int_value minus 0)) ls) (root_with (Int p (int_value minus 0)) ls None)) in
+    absurd (never (length text) (10 ∷ c ∷ rest) r e s.1)
+is_before text c rest json r opens (r_digits {ls} {p} {minus} d ds h n are) e =
+    let k = magnitude (d ∷ ds) in
+    let s = number_stops (length text) c rest (mode.Digits p minus (sat k)) ls p minus k (digits_mode p minus k) (awaits-ready ls h.before h.stands) (opens.after_value (length text + 1) (levels_with (Int p (int_value minus k)) ls) (root_with (Int p (int_value minus k)) ls None)) in
+    absurd (never (length text) (10 ∷ c ∷ rest) r e s.1)
+is_before text c rest json r opens (r_text {ls} {p} {s} {c = d} h) e = absurd (never (length text) (10 ∷ c ∷ rest) r e (by_step (text_stops (length text) p false s ls None d) (by_fault refl)))
+is_before text c rest json r opens (r_key_text {ls} {q} {members} {p} {s} {c = d} h) e = absurd (never (length text) (10 ∷ c ∷ rest) r e (by_step (text_stops (length text) p true s (level.Object q members ∷ ls) None d) (by_fault refl)))
+
+-- ---- a key where a value is, and a value where a key is
+no_value : (f : Bool) (p : ℕ) (rest : List ℕ) (ls : List Level) → Answers p (10 ∷ 110 ∷ rest) (Ok (state (key_mode f) ls None)) (Err (Syntax (p + 1)))
+unfolding step between
+no_value true p rest ls = by_step refl (by_step refl (by_fault refl))
+no_value false p rest ls = by_step refl (by_step refl (by_fault refl))
+
+blank_first : (f : Bool) (p : ℕ) (ls : List Level) → step p 10 (state (awaiting f) ls None) ≡ Ok (state (awaiting f) ls None)
+unfolding step between
+blank_first true p ls = refl
+blank_first false p ls = refl
+
+colon_stops : (p : ℕ) (ls : List Level) (o : Option OrderedJson) → step p 58 (state mode.After ls o) ≡ Err (Syntax p)
+unfolding step between
+colon_stops p ls o = refl
+
+no_colon : (f : Bool) (p : ℕ) (cs : List Char) (rest : List ℕ) (ls : List Level) → AreChars cs → Ready ls → Answers p (10 ∷ ((print_string cs ++ 58 ∷ []) ++ rest)) (Ok (state (awaiting f) ls None)) (Err (Syntax (p + 1 + length (print_string cs))))
+no_colon f p cs rest ls h r =
+    by_step (blank_first f p ls) (by_bytes (append_assoc (print_string cs) (58 ∷ []) rest)
+    (string_read f cs h r (by_step (colon_stops (p + 1 + length (print_string cs)) (levels_with (Text (p + 1) (content cs)) ls) (root_with (Text (p + 1) (content cs)) ls None)) (by_fault refl))))
+
+-- ---- where a value and where a key may begin
+regroup : (text front rest : List ℕ) (json : OrderedJson) → HasValue ((text ++ front) ++ rest) json → HasValue (text ++ (front ++ rest)) json
+regroup text front rest json h = subst (λ w. HasValue w json) (append_assoc text front rest) h
+
+record ValueAwaited (text : List ℕ) : Type 0 where
+  f : Bool
+  ls : List Level
+  awaited : Awaits ls text
+  follows : Follows text (state (awaiting f) ls None)
+
+value_awaited : (text : List ℕ) → AwaitsValue text → ValueAwaited text
+value_awaited text h = by (live_of text (10 ∷ 110 ∷ 117 ∷ 108 ∷ 108 ∷ h.0) h.1 (regroup text (10 ∷ 110 ∷ 117 ∷ 108 ∷ 108 ∷ []) h.0 h.1 h.2))
+  where
+    chosen : (r : Reader) → Follows text r → answer_from (length text) (10 ∷ 110 ∷ 117 ∷ 108 ∷ 108 ∷ h.0) (Ok r) ≡ Ok h.1 → Before text r → ValueAwaited text
+    chosen r g e (before_value f {ls} a) = record { f = f; ls = ls; awaited = a; follows = g }
+    chosen r g e (before_key f {ls} {q} {members} k) = absurd (never (length text) (10 ∷ 110 ∷ 117 ∷ 108 ∷ 108 ∷ h.0) r e (no_value f (length text) (117 ∷ 108 ∷ 108 ∷ h.0) (level.Object q members ∷ ls)))
+
+    by : Live text (10 ∷ 110 ∷ 117 ∷ 108 ∷ 108 ∷ h.0) h.1 → ValueAwaited text
+    by l = chosen l.r l.follows l.goes (is_before text 110 (117 ∷ 108 ∷ 108 ∷ h.0) h.1 l.r n_opens l.reached l.goes)
+
+record KeyAwaited (text : List ℕ) : Type 0 where
+  f : Bool
+  ls : List Level
+  q : ℕ
+  members : List Member
+  awaited : KeyAwaits (Awaits ls) (length ls) q members text
+  follows : Follows text (state (key_mode f) (level.Object q members ∷ ls) None)
+
+key_awaited : (text : List ℕ) → AwaitsKey text → KeyAwaited text
+key_awaited text h = by (live_of text (10 ∷ ((print_string h.0 ++ 58 ∷ []) ++ h.2.0)) h.2.1 (regroup text (10 ∷ (print_string h.0 ++ 58 ∷ [])) h.2.0 h.2.1 h.2.2))
+  where
+    chosen : (r : Reader) → Follows text r → answer_from (length text) (10 ∷ ((print_string h.0 ++ 58 ∷ []) ++ h.2.0)) (Ok r) ≡ Ok h.2.1 → Before text r → KeyAwaited text
+    chosen r g e (before_key f {ls} {q} {members} k) = record { f = f; ls = ls; q = q; members = members; awaited = k; follows = g }
+    chosen r g e (before_value f {ls} a) = absurd (never (length text) (10 ∷ ((print_string h.0 ++ 58 ∷ []) ++ h.2.0)) r e (no_colon f (length text) h.0 h.2.0 ls h.1 (awaits-ready ls text a)))
+
+    by : Live text (10 ∷ ((print_string h.0 ++ 58 ∷ []) ++ h.2.0)) h.2.1 → KeyAwaited text
+    by l = chosen l.r l.follows l.goes (is_before text 34 (((print_chars h.0 ++ 34 ∷ []) ++ 58 ∷ []) ++ h.2.0) h.2.1 l.r quote_opens l.reached l.goes)
+
+-- ---- the answer where a value or a key may begin
+at_place : (text : List ℕ) (p : ℕ) → p ≤ length text → length (take p text) ≡ p
+at_place text p h = length-take-le p text h
+
+split_at : (text rest : List ℕ) (p : ℕ) → drop p text ≡ rest → take p text ++ rest ≡ text
+split_at text rest p e = ap (λ w. take p text ++ w) (sym e) ∙ take-append-drop p text
+
+-- two outcomes of one text
+other_value : (text : List ℕ) (json : OrderedJson) (fault : JsonFault) → answer text ≡ Ok json → answer text ≡ Err fault → ⊥
+other_value text json fault a b = let clash : ◌≡◌ {A = Answer} (Ok json) (Err fault) = sym a ∙ b in cc
+
+answers_at : (text rest : List ℕ) (p : ℕ) (r : Reader) (fault : ℕ → JsonFault) → p ≤ length text → drop p text ≡ rest → Follows (take p text) r → Answers (length (take p text)) rest (Ok r) (Err (fault (length (take p text)))) → answer text ≡ Err (fault p)
+answers_at text rest p r fault within stands g a =
+    ap answer (sym (split_at text rest p stands)) ∙ (g rest ∙ (a.is ∙ ap (λ n. Err (fault n)) (at_place text p within)))
+
+fraction_answer : (text : List ℕ) (p : ℕ) → HasFraction text p → answer text ≡ Err (Fraction p)
+fraction_answer text p h = by (value_awaited (take p text) h.3.awaited) h.2 h.3.stands h.4
+  where
+    by : ValueAwaited (take p text) → (rest : List ℕ) → drop p text ≡ signed h.0 h.1 ++ rest → BeginsWithMark rest → answer text ≡ Err (Fraction p)
+    by v [] stands marked = absurd marked
+    by v (b ∷ bs) stands marked = answers_at text (signed h.0 h.1 ++ b ∷ bs) p (state (awaiting v.f) v.ls None) Fraction h.3.within stands v.follows (number_read v.f h.0 h.1 h.3.whole (λ m is. number_marked is marked))
+
+range_answer : (text : List ℕ) (p : ℕ) → IsOutOfRange text p → answer text ≡ Err (Range p)
+range_answer text p h =
+    let v = value_awaited (take p text) h.3.awaited in
+    answers_at text (signed h.0 h.1 ++ h.2) p (state (awaiting v.f) v.ls None) Range h.3.within h.3.stands v.follows (number_read v.f h.0 h.1 h.3.whole (λ m is. number_too_large h.2 is h.5 h.4))
+
+bracket_tree : (bracket : ℕ) → (bracket ≡ 91) ⊎ (bracket ≡ 123) → (t : Tree) × (close : ℕ) × (print t ≡ bracket ∷ close ∷ []) × IsTree t × ((depth : ℕ) → depth < max_depth → IsTaken depth t)
+bracket_tree bracket (inl e) = (array (no_elements []), 93, ap (λ n. n ∷ 93 ∷ []) (sym e), tt, λ depth l. (l, tt))
+bracket_tree bracket (inr e) = (object (no_members []), 125, ap (λ n. n ∷ 125 ∷ []) (sym e), tt, λ depth l. (l, tt))
+
+deep_step : (f : Bool) (p bracket : ℕ) (ls : List Level) → (bracket ≡ 91) ⊎ (bracket ≡ 123) → nat_lt (length ls) max_depth ≡ false → step p bracket (state (awaiting f) ls None) ≡ Err (TooDeep p)
+deep_step f p bracket ls (inl e) h = ap (λ b. step p b (state (awaiting f) ls None)) e ∙ list_too_deep f p ls None h
+deep_step f p bracket ls (inr e) h = ap (λ b. step p b (state (awaiting f) ls None)) e ∙ object_too_deep f p ls None h
+
+too_deep_answer : (text : List ℕ) (p : ℕ) → IsTooDeep text p → answer text ≡ Err (TooDeep p)
+too_deep_answer text p h = by (value_awaited (take p text) h.awaited)
+  where
+    by : ValueAwaited (take p text) → answer text ≡ Err (TooDeep p)
+    by v = room (nat_lt (length v.ls) max_depth) refl
+      where
+        room : (x : Bool) → nat_lt (length v.ls) max_depth ≡ x → answer text ≡ Err (TooDeep p)
+        room false e = answers_at text (h.bracket ∷ h.rest) p (state (awaiting v.f) v.ls None) TooDeep h.within h.stands v.follows (by_step (deep_step v.f (length (take p text)) h.bracket v.ls h.opens e) (by_fault refl))
+        room true e =
+            let t = bracket_tree h.bracket h.opens in
+            let whole : take p text ++ print t.0 ≡ (take p text ++ h.bracket ∷ []) ++ t.1 ∷ [] = ap (λ w. take p text ++ w) t.2 ∙ sym (append_assoc (take p text) (h.bracket ∷ []) (t.1 ∷ [])) in
+            absurd (h.too_deep (faultless-front (take p text ++ h.bracket ∷ []) (t.1 ∷ []) (subst BeginsFaultless whole (plug v.ls (take p text) v.awaited t.0 t.3 (t.4 (length v.ls) (below (length v.ls) max_depth e))))))
+
+double_key_answer : (text : List ℕ) (p : ℕ) → HasDoubleKey text p → answer text ≡ Err (DoubleKey p)
+double_key_answer text p h = by (key_awaited (take p text) h.awaited)
+  where
+    by : KeyAwaited (take p text) → answer text ≡ Err (DoubleKey p)
+    by k = known (has_key (content h.key) (map key_of k.members)) refl
+      where
+        known : (x : Bool) → has_key (content h.key) (map key_of k.members) ≡ x → answer text ≡ Err (DoubleKey p)
+        known true e = answers_at text (print_string h.key ++ h.rest) p (state (key_mode k.f) (level.Object k.q k.members ∷ k.ls) None) DoubleKey h.within h.stands k.follows (key_refused k.f h.key h.rest h.well_formed e)
+        known false e = absurd (h.double (faultless-front (take p text ++ print_string h.key) (58 ∷ [])
+            (subst BeginsFaultless (sym (append_assoc (take p text) (print_string h.key) (58 ∷ []))) (named_faultless k.ls (take p text) h.key k.awaited h.well_formed e))))
+
+-- ---- a fault of the syntax
+begins-front : (front back : List ℕ) → Begins (front ++ back) → Begins front
+begins-front front back h = (back ++ h.0, subst IsJson (append_assoc front back h.0) h.1)
+
+faultless-begins : (text : List ℕ) → BeginsFaultless text → Begins text
+faultless-begins text h = (h.0, (h.2.0, h.2.1, h.2.2, h.2.3))
+
+take-take : (n m : ℕ) (text : List ℕ) → n ≤ m → m ≤ length text → take n (take m text) ≡ take n text
+take-take n m text l h =
+    sym (ap (take n) (sym (take-append-drop m text)) ∙ take-append-le n (take m text) (drop m text) (let same = length-take-le m text h in omega arith))
+
+front-of : (n m : ℕ) (text : List ℕ) → n ≤ m → m ≤ length text → take n text ++ drop n (take m text) ≡ take m text
+front-of n m text l h = ap (λ w. w ++ drop n (take m text)) (sym (take-take n m text l h)) ∙ take-append-drop n (take m text)
+
+begins-take : (n m : ℕ) (text : List ℕ) → n ≤ m → m ≤ length text → Begins (take m text) → Begins (take n text)
+begins-take n m text l h b = begins-front (take n text) (drop n (take m text)) (subst Begins (sym (front-of n m text l h)) b)
+
+faultless-take : (n m : ℕ) (text : List ℕ) → n ≤ m → m ≤ length text → BeginsFaultless (take m text) → BeginsFaultless (take n text)
+faultless-take n m text l h b = faultless-front (take n text) (drop n (take m text)) (subst BeginsFaultless (sym (front-of n m text l h)) b)
+
+fault_place : (text : List ℕ) (p : ℕ) → HasSyntaxFault text p → p ≤ length text
+fault_place text p h = by h.fault
+  where
+    by : ((p ≡ length text) × (IsJson text → ⊥)) ⊎ ((p < length text) × (Begins (take (p + 1) text) → ⊥)) → p ≤ length text
+    by (inl e) = let same : p ≡ length text = e.0 in omega arith
+    by (inr l) = let short : p < length text = l.0 in omega arith
+
+-- no fault of the syntax stands where the bytes up to n begin a JSON text, and none without a fault
+refusal_clash : (text : List ℕ) (p n : ℕ) → HasSyntaxFault text p → n ≤ length text → Begins (take n text) → (BeginsFaultless (take n text) → ⊥) → ⊥
+refusal_clash text p n h l begins refused = by h.fault (order p n)
+  where
+    order : (a b : ℕ) → (b ≤ a) ⊎ (a + 1 ≤ b)
+    order a b = grind arith
+
+    by : ((p ≡ length text) × (IsJson text → ⊥)) ⊎ ((p < length text) × (Begins (take (p + 1) text) → ⊥)) → (n ≤ p) ⊎ (p + 1 ≤ n) → ⊥
+    by fault (inl o) = refused (faultless-take n p text o (fault_place text p h) h.faultless)
+    by (inl e) (inr o) = refused (faultless-take n p text (let same : p ≡ length text = e.0 in omega arith) (fault_place text p h) h.faultless)
+    by (inr s) (inr o) = s.1 (begins-take (p + 1) n text o l begins)
+
+syntax_places : (text : List ℕ) (p q : ℕ) → HasSyntaxFault text p → HasSyntaxFault text q → p < q → ⊥
+syntax_places text p q h k l = by h.fault
+  where
+    by : ((p ≡ length text) × (IsJson text → ⊥)) ⊎ ((p < length text) × (Begins (take (p + 1) text) → ⊥)) → ⊥
+    by (inl e) = let same : p ≡ length text = e.0 in let short : q ≤ length text = fault_place text q k in omega arith
+    by (inr s) = s.1 (begins-take (p + 1) q text (omega arith) (fault_place text q k) (faultless-begins (take q text) k.faultless))
+
+same_place : (p q : ℕ) → (p < q → ⊥) → (q < p → ⊥) → p ≡ q
+same_place p q h k = by (order p q)
+  where
+    order : (a b : ℕ) → (a < b) ⊎ ((b < a) ⊎ (a ≡ b))
+    order a b = grind arith
+
+    by : (p < q) ⊎ ((q < p) ⊎ (p ≡ q)) → p ≡ q
+    by (inl l) = absurd (h l)
+    by (inr (inl l)) = absurd (k l)
+    by (inr (inr e)) = e
+
+-- the bytes up to a part that stands at a place
+through : (text part rest : List ℕ) (p : ℕ) → p ≤ length text → drop p text ≡ part ++ rest → take (p + length part) text ≡ take p text ++ part
+through text part rest p l stands =
+    ap (take (p + length part)) (sym (split_at text (part ++ rest) p stands))
+    ∙ (ap (λ n. take (n + length part) (take p text ++ (part ++ rest))) (sym (at_place text p l))
+    ∙ (take-append-add (take p text) (part ++ rest) (length part) ∙ ap (λ w. take p text ++ w) (take-append_seam part rest)))
+
+within : (text part rest : List ℕ) (p : ℕ) → p ≤ length text → drop p text ≡ part ++ rest → p + length part ≤ length text
+within text part rest p l stands =
+    omega (arith, at_place text p l, ap length (split_at text (part ++ rest) p stands), length-append (take p text) (part ++ rest), length-append part rest)
+
+part_clash : (text part rest : List ℕ) (p q : ℕ) → HasSyntaxFault text p → q ≤ length text → drop q text ≡ part ++ rest → Begins (take q text ++ part) → (BeginsFaultless (take q text ++ part) → ⊥) → ⊥
+part_clash text part rest p q h l stands begins refused =
+    refusal_clash text p (q + length part) h (within text part rest q l stands)
+    (subst Begins (sym (through text part rest q l stands)) begins) (λ f. refused (subst BeginsFaultless (through text part rest q l stands) f))
+
+too_deep_clash : (text : List ℕ) (p q : ℕ) → HasSyntaxFault text p → IsTooDeep text q → ⊥
+too_deep_clash text p q h k =
+    let v = value_awaited (take q text) k.awaited in
+    let t = bracket_tree k.bracket k.opens in
+    let whole : take q text ++ print t.0 ≡ (take q text ++ k.bracket ∷ []) ++ t.1 ∷ [] = ap (λ w. take q text ++ w) t.2 ∙ sym (append_assoc (take q text) (k.bracket ∷ []) (t.1 ∷ [])) in
+    part_clash text (k.bracket ∷ []) k.rest p q h k.within k.stands
+    (begins-front (take q text ++ k.bracket ∷ []) (t.1 ∷ []) (subst Begins whole (plug_json v.ls (take q text) v.awaited t.0 t.3))) k.too_deep
+
+double_key_clash : (text : List ℕ) (p q : ℕ) → HasSyntaxFault text p → HasDoubleKey text q → ⊥
+double_key_clash text p q h k =
+    let a = key_awaited (take q text) k.awaited in
+    part_clash text (print_string k.key) k.rest p q h k.within k.stands (plug_key a.ls a.q a.members (take q text) a.awaited k.key k.well_formed) k.double
+
+-- the text of a number, up to its mark
+number_begins : (text : List ℕ) (v : ValueAwaited text) (minus : Bool) (ds : List ℕ) (b : ℕ) → IsWhole ds → is_mark b ≡ true → Begins (text ++ (signed minus ds ++ b ∷ []))
+number_begins text v minus ds b whole marked = by (b == 46) refl
+  where
+    is : (a c : ℕ) → a == c ≡ true → a ≡ c
+    is a c e = grind (arith, nat_tests)
+
+    other : (a : ℕ) → a == 46 ≡ false → is_mark a ≡ true → (a ≡ 101) ⊎ (a ≡ 69)
+    other a n m = grind (arith, nat_tests)
+
+    by : (x : Bool) → b == 46 ≡ x → Begins (text ++ (signed minus ds ++ b ∷ []))
+    by true e =
+        begins-front (text ++ (signed minus ds ++ b ∷ [])) (48 ∷ []) (subst Begins (ap (λ w. text ++ w) (ap (λ w. signed minus ds ++ b ∷ w) refl ∙ sym (append_assoc (signed minus ds) (b ∷ []) (48 ∷ []))) ∙ sym (append_assoc text (signed minus ds ++ b ∷ []) (48 ∷ [])))
+        (plug_json v.ls text v.awaited (number minus ds (b ∷ 48 ∷ []) []) (whole, (is b 46 e, (refl, tt)), tt)))
+    by false e =
+        begins-front (text ++ (signed minus ds ++ b ∷ [])) (48 ∷ []) (subst Begins (ap (λ w. text ++ w) (sym (append_assoc (signed minus ds) (b ∷ []) (48 ∷ []))) ∙ sym (append_assoc text (signed minus ds ++ b ∷ []) (48 ∷ [])))
+        (plug_json v.ls text v.awaited (number minus ds [] (b ∷ 48 ∷ [])) (whole, tt, (other b e marked, inl (refl, tt)))))
+
+fraction_clash : (text : List ℕ) (p q : ℕ) → HasSyntaxFault text p → HasFraction text q → ⊥
+fraction_clash text p q h k = by k.2 k.3.stands k.4
+  where
+    v : ValueAwaited (take q text)
+    v = value_awaited (take q text) k.3.awaited
+
+    by : (rest : List ℕ) → drop q text ≡ signed k.0 k.1 ++ rest → BeginsWithMark rest → ⊥
+    by [] stands marked = marked
+    by (b ∷ bs) stands marked =
+        part_clash text (signed k.0 k.1 ++ b ∷ []) bs p q h k.3.within (stands ∙ sym (append_assoc (signed k.0 k.1) (b ∷ []) bs))
+        (number_begins (take q text) v k.0 k.1 b k.3.whole marked)
+        (λ f. refused f)
+      where
+        refused : BeginsFaultless (take q text ++ (signed k.0 k.1 ++ b ∷ [])) → ⊥
+        refused f =
+            let bytes : (take q text ++ (signed k.0 k.1 ++ b ∷ [])) ++ f.0 ≡ take q text ++ (signed k.0 k.1 ++ b ∷ f.0) = append_assoc (take q text) (signed k.0 k.1 ++ b ∷ []) f.0 ∙ ap (λ w. take q text ++ w) (append_assoc (signed k.0 k.1) (b ∷ []) f.0) in
+            let a = number_read v.f k.0 k.1 {p = length (take q text)} {rest = b ∷ f.0} {ls = v.ls} {o = None} {x = Err (Fraction (length (take q text)))} k.3.whole (λ m is. number_marked is marked) in
+            other_value (take q text ++ (signed k.0 k.1 ++ b ∷ f.0)) f.1 (Fraction (length (take q text))) (ap answer (sym bytes) ∙ answer-value ((take q text ++ (signed k.0 k.1 ++ b ∷ [])) ++ f.0) f.1 f.2) (v.follows (signed k.0 k.1 ++ b ∷ f.0) ∙ a.is)
+
+-- a number that is too large stays so
+still_large : (minus : Bool) (n b : ℕ) → fits minus n ≡ false → fits minus (grow n b) ≡ false
+still_large true n b h = grind (arith, nat_tests)
+still_large false n b h = grind (arith, nat_tests)
+
+large_step : (q : ℕ) (minus : Bool) (n : ℕ) (ls : List Level) (p b : ℕ) → fits minus n ≡ false → is_decimal b ≡ false → (fault : JsonFault) × (step p b (state (mode.Digits q minus (sat n)) ls None) ≡ Err fault)
+unfolding after_digits
+large_step q minus n ls p b h d = by (is_mark b) refl
+  where
+    by : (x : Bool) → is_mark b ≡ x → (fault : JsonFault) × (step p b (state (mode.Digits q minus (sat n)) ls None) ≡ Err fault)
+    by true e = (Fraction q, (digits_mode q minus n).at_byte p b ls None d ∙ rw e refl)
+    by false e = (Range q, (digits_mode q minus n).at_byte p b ls None d ∙ rw e (ap (λ o. and_then o (between p b)) (number_refused p q minus n (mode.Digits q minus (sat n)) ls None h)))
+
+over_range : (tail : List ℕ) (p q : ℕ) (minus : Bool) (n : ℕ) (ls : List Level) (json : OrderedJson) → fits minus n ≡ false → answer_from p tail (Ok (state (mode.Digits q minus (sat n)) ls None)) ≡ Ok json → ⊥
+over_range [] p q minus n ls json h e = never p [] (state (mode.Digits q minus (sat n)) ls None) e (number_too_large [] (digits_mode q minus n) h tt)
+over_range (b ∷ tail) p q minus n ls json h e = by (is_decimal b) refl (λ f. over_range tail (p + 1) q minus (grow n b) ls json (still_large minus n b h) f)
+  where
+    by : (x : Bool) → is_decimal b ≡ x → (answer_from (p + 1) tail (Ok (state (mode.Digits q minus (sat (grow n b))) ls None)) ≡ Ok json → ⊥) → ⊥
+    by true d on = on (ap (answer_from (p + 1) tail) (sym (digit_step p q b minus n ls None d)) ∙ e)
+    by false d on = let s = large_step q minus n ls p b h d in never p (b ∷ tail) (state (mode.Digits q minus (sat n)) ls None) e (by_step s.1 (by_fault refl))
+
+range_refused : (text : List ℕ) (v : ValueAwaited text) (minus : Bool) (ds : List ℕ) → IsWhole ds → fits minus (magnitude ds) ≡ false → BeginsFaultless (text ++ signed minus ds) → ⊥
+range_refused text v minus [] whole large f = whole
+range_refused text v minus (d ∷ ds) (inl e) large f = let zero_fits : fits minus (magnitude (d ∷ ds)) ≡ true = (let same : 48 ∷ [] ≡ d ∷ ds = cc in subst (λ w. fits minus (magnitude w) ≡ true) same (both minus)) in let clash : true ≡ false = sym zero_fits ∙ large in cc
+  where
+    both : (m : Bool) → fits m 0 ≡ true
+    both true = refl
+    both false = refl
+range_refused text v minus (d ∷ ds) (inr e) large f =
+    let p = length text + length (signed minus (d ∷ ds)) in
+    let s = state (mode.Digits (length text) minus (sat (magnitude (d ∷ ds)))) v.ls None in
+    let a = nonzero_read v.f minus d ds {p = length text} {rest = f.0} {ls = v.ls} {o = None} {x = answer_from p f.0 (Ok s)} e.0 e.1 (record { is = refl }) in
+    over_range f.0 p (length text) minus (magnitude (d ∷ ds)) v.ls f.1 large
+    (sym (v.follows (signed minus (d ∷ ds) ++ f.0) ∙ a.is) ∙ (ap answer (sym (append_assoc text (signed minus (d ∷ ds)) f.0)) ∙ answer-value ((text ++ signed minus (d ∷ ds)) ++ f.0) f.1 f.2))
+
+range_clash : (text : List ℕ) (p q : ℕ) → HasSyntaxFault text p → IsOutOfRange text q → ⊥
+range_clash text p q h k =
+    let v = value_awaited (take q text) k.3.awaited in
+    part_clash text (signed k.0 k.1) k.2 p q h k.3.within k.3.stands
+    (subst Begins (ap (λ w. take q text ++ w) (append-nil (signed k.0 k.1))) (plug_json v.ls (take q text) v.awaited (number k.0 k.1 [] []) (k.3.whole, tt, tt)))
+    (range_refused (take q text) v k.0 k.1 k.3.whole k.5)
+
+syntax_answer : (text : List ℕ) (p : ℕ) → HasSyntaxFault text p → answer text ≡ Err (Syntax p)
+syntax_answer text p h = by (answer text) refl (answer_says text)
+  where
+    is_json : (json : OrderedJson) → HasValue text json → IsJson text
+    is_json json k = (k.0, k.1, k.2, k.3)
+
+    value : (json : OrderedJson) → HasValue text json → ((p ≡ length text) × (IsJson text → ⊥)) ⊎ ((p < length text) × (Begins (take (p + 1) text) → ⊥)) → ⊥
+    value json k (inl e) = e.1 (is_json json k)
+    value json k (inr s) = s.1 (drop (p + 1) text, subst IsJson (sym (take-append-drop (p + 1) text)) (is_json json k))
+
+    by : (x : Answer) → answer text ≡ x → Says text x → answer text ≡ Err (Syntax p)
+    by (Ok json) e k = absurd (value json k h.fault)
+    by (Err (Syntax q)) e k = e ∙ ap (λ n. Err (Syntax n)) (same_place q p (syntax_places text q p k h) (syntax_places text p q h k))
+    by (Err (DoubleKey q)) e k = absurd (double_key_clash text p q h k)
+    by (Err (Fraction q)) e k = absurd (fraction_clash text p q h k)
+    by (Err (Range q)) e k = absurd (range_clash text p q h k)
+    by (Err (TooDeep q)) e k = absurd (too_deep_clash text p q h k)
+    by (Err TooLong) e k = absurd k
+    by (Err Memory) e k = absurd k
+
+-- ---- the laws
+-- the fault of a text that is short enough is its answer
+pub fault_answer : (text : List ℕ) (fault : JsonFault) → fault ≢ Memory → length text ≤ max_len → HasFault text fault → answer text ≡ Err fault
+fault_answer text (Syntax p) n l h = syntax_answer text p h.1
+fault_answer text (DoubleKey p) n l h = double_key_answer text p h.1
+fault_answer text (Fraction p) n l h = fraction_answer text p h.1
+fault_answer text (Range p) n l h = range_answer text p h.1
+fault_answer text (TooDeep p) n l h = too_deep_answer text p h.1
+fault_answer text TooLong n l h = let long : max_len < length text = h in absurd (omega arith)
+fault_answer text Memory n l h = absurd (n refl)
+
+pub no_fault : (text : List ℕ) (json : OrderedJson) (fault : JsonFault) → fault ≢ Memory → Means text json → HasFault text fault → ⊥
+no_fault text json fault n m h = other_value text json fault (answer-value text json m.1) (fault_answer text fault n m.0 h)
+
+short_or_long : (text : List ℕ) → (length text ≤ max_len) ⊎ (max_len < length text)
+short_or_long text = order (length text)
+  where
+    order : (k : ℕ) → (k ≤ 1048576) ⊎ (1048576 < k)
+    order k = grind arith
+
+-- a text that is too long has no other fault
+long_fault : (text : List ℕ) (fault : JsonFault) → fault ≢ Memory → max_len < length text → HasFault text fault → fault ≡ TooLong
+long_fault text (Syntax p) n l h = let short : length text ≤ max_len = h.0 in absurd (omega arith)
+long_fault text (DoubleKey p) n l h = let short : length text ≤ max_len = h.0 in absurd (omega arith)
+long_fault text (Fraction p) n l h = let short : length text ≤ max_len = h.0 in absurd (omega arith)
+long_fault text (Range p) n l h = let short : length text ≤ max_len = h.0 in absurd (omega arith)
+long_fault text (TooDeep p) n l h = let short : length text ≤ max_len = h.0 in absurd (omega arith)
+long_fault text TooLong n l h = refl
+long_fault text Memory n l h = absurd (n refl)
+
+pub one_fault : (text : List ℕ) (a b : JsonFault) → a ≢ Memory → b ≢ Memory → HasFault text a → HasFault text b → a ≡ b
+one_fault text a b n m h k = by (short_or_long text)
+  where
+    by : (length text ≤ max_len) ⊎ (max_len < length text) → a ≡ b
+    by (inl l) = let same : ◌≡◌ {A = Answer} (Err a) (Err b) = sym (fault_answer text a n l h) ∙ fault_answer text b m l k in cc
+    by (inr l) = long_fault text a n l h ∙ sym (long_fault text b m l k)
