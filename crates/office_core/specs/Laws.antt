@@ -16,10 +16,11 @@ RiseFrom least (letter ∷ letters) = (least ≤ letter.number) × RiseFrom (let
 abbrev pub state_by : FlatMachine → List Letter → Option ℕ
 state_by machine letters = fold (λ state letter. next_state machine state letter.event) None letters
 
--- all letters that an actor was sent in a run, and all that it took, in the order in which that happened
+-- all letters that an actor was sent in a run, in the order in which they were sent
 abbrev pub all_sent : List FlatMachine → List Entry → ℕ → List Letter
 all_sent machines entries actor = along machines (sent_to machines actor) empty_office entries
 
+-- all letters that it took, in the order in which it took them
 abbrev pub all_taken : List FlatMachine → List Entry → ℕ → List Letter
 all_taken machines entries actor = along machines (taken_by actor) empty_office entries
 

@@ -1,58 +1,10 @@
 // A source, a sink and both in one, in memory. Each fails at the calls that its list names.
-ghost use Rattle.std.specs.Prelude.{◌≡◌, ◌+◌, ◌-◌, ◌^◌, ◌≤◌, ◌<◌, min, Some, [], ◌++◌, length, drop, take, OnOk, OnErr, IfOk};
-ghost use Rattle.std.specs.Vec.{vec_len};
+ghost use Rattle.std.specs.Prelude.{◌≡◌, Some, [], IfOk};
 
-use crate::{Both, Failed, Got, Sink, Source, Station};
+use crate::buffers::Input;
+use crate::schedule::Schedule;
+use crate::{Both, Failed, Got, Sink, Source};
 use std::alloc::AllocError;
-
-/// Which calls of an object fail: those with these numbers, the first call of the object being 1.
-#[derive(Debug, Drop)]
-struct Schedule {
-    fails: Vec<u64>,
-    calls: u64,
-}
-
-impl Schedule {
-    fn new(fails: Vec<u64>) -> Schedule {
-        Schedule { fails, calls: 0 }
-    }
-
-    /// Counts a call, and tells whether it is to fail. It goes through the whole list.
-    fn next_fails(&mut self) -> bool {
-        self.calls = self.calls.saturating_add(1);
-        self.fails.contains(&self.calls)
-    }
-}
-
-/// Bytes, handed out from the front.
-#[derive(Debug, Drop)]
-struct Input {
-    bytes: Vec<u8>,
-    place: usize,
-    ghost within: { place ≤ vec_len bytes },
-}
-
-impl Input {
-    ghost use Rattle.xs_outside.specs.Memory.{left_of};
-
-    fn new(bytes: Vec<u8>) -> Input
-        ensures { left_of result ≡ bytes.items }
-    {
-        Input { bytes, place: 0 }
-    }
-
-    /// Copies the next bytes to the front of the slice, and tells how many: as many as there are, or as fit.
-    fn hand_out(&mut self, into: &mut [u8]) -> usize
-        ensures count { result ≡ min (length (left_of self.old)) (length into.old) }
-        ensures bytes { left_of self.old ≡ take result into.new ++ left_of self.new }
-        ensures place { self.new.place ≡ self.old.place + result }
-    {
-        let count = (self.bytes.len() - self.place).min(into.len());
-        into[..count].copy_from_slice(&self.bytes[self.place..self.place + count]);
-        self.place += count;
-        count
-    }
-}
 
 /// A source in memory.
 #[derive(Debug, Drop)]
@@ -63,9 +15,12 @@ pub struct MemorySource {
 }
 
 impl MemorySource {
+    ghost use Rattle.xs_outside.specs.Links.{IsNewSource};
+
     /// A source of these bytes, whose calls with these numbers fail, counted from 1.
     pub fn new(bytes: Vec<u8>, fails: Vec<u64>) -> Result<MemorySource, AllocError>
-        ensures { IfOk result (λ source. ⟦<MemorySource as Source>⟧.left source ≡ Some bytes.items) }
+        ensures left { IfOk result (λ source. ⟦<MemorySource as Source>⟧.left source ≡ Some bytes.items) }
+        ensures fails { IfOk result (λ source. IsNewSource source fails.items) }
     {
         Ok(MemorySource {
             input: Input::new(bytes),
@@ -76,7 +31,8 @@ impl MemorySource {
 }
 
 impl Source for MemorySource {
-    ghost use Rattle.xs_outside.specs.Memory.{left_of};
+    ghost use Rattle.xs_outside.specs.Links.{ReadsSource};
+    ghost use Rattle.xs_outside.specs.Inputs.{left_of};
     ghost use Rattle.std.specs.Prelude.{◌≡◌, Some};
 
     ghost left = { λ s. Some (left_of s.input) };
@@ -85,7 +41,7 @@ impl Source for MemorySource {
 
     ghost read_faults = { λ s. s.faults };
 
-    ghost reads = { λ old new. Unit {0} };
+    ghost reads = { ReadsSource };
 
     fn read(&mut self, into: &mut [u8]) -> Got {
         if self.schedule.next_fails() {
@@ -108,9 +64,12 @@ pub struct MemorySink {
 }
 
 impl MemorySink {
+    ghost use Rattle.xs_outside.specs.Links.{IsNewSink};
+
     /// An empty sink, whose calls with these numbers fail, counted from 1.
     pub fn new(fails: Vec<u64>) -> Result<MemorySink, AllocError>
-        ensures { IfOk result (λ sink. ⟦<MemorySink as Sink>⟧.written sink ≡ Some []) }
+        ensures written { IfOk result (λ sink. ⟦<MemorySink as Sink>⟧.written sink ≡ Some []) }
+        ensures fails { IfOk result (λ sink. IsNewSink sink fails.items) }
     {
         Ok(MemorySink {
             output: Vec::new(*fails.allocator()),
@@ -128,13 +87,14 @@ impl MemorySink {
 }
 
 impl Sink for MemorySink {
+    ghost use Rattle.xs_outside.specs.Links.{WritesSink};
     ghost use Rattle.std.specs.Prelude.{Some};
 
     ghost written = { λ s. Some s.output.items };
 
     ghost write_faults = { λ s. s.faults };
 
-    ghost writes = { λ old new. Unit {0} };
+    ghost writes = { WritesSink };
 
     fn write(&mut self, bytes: &[u8]) -> Result<(), Failed> {
         if self.schedule.next_fails() || self.output.extend_from_slice(bytes).is_err() {
@@ -156,10 +116,13 @@ pub struct MemoryLink {
 }
 
 impl MemoryLink {
+    ghost use Rattle.xs_outside.specs.Links.{IsNewLink};
+
     /// A link with this input and no output, whose calls with these numbers fail, counted from 1.
     pub fn new(input: Vec<u8>, fails: Vec<u64>) -> Result<MemoryLink, AllocError>
         ensures input { IfOk result (λ link. ⟦<MemoryLink as Source>⟧.left link ≡ Some input.items) }
         ensures output { IfOk result (λ link. ⟦<MemoryLink as Sink>⟧.written link ≡ Some []) }
+        ensures fails { IfOk result (λ link. IsNewLink link fails.items) }
     {
         Ok(MemoryLink {
             output: Vec::new(*fails.allocator()),
@@ -179,7 +142,8 @@ impl MemoryLink {
 }
 
 impl Source for MemoryLink {
-    ghost use Rattle.xs_outside.specs.Memory.{left_of};
+    ghost use Rattle.xs_outside.specs.Links.{ReadsLink};
+    ghost use Rattle.xs_outside.specs.Inputs.{left_of};
     ghost use Rattle.std.specs.Prelude.{◌≡◌, Some};
 
     ghost left = { λ l. Some (left_of l.input) };
@@ -188,7 +152,7 @@ impl Source for MemoryLink {
 
     ghost read_faults = { λ l. l.read_faults };
 
-    ghost reads = { λ old new. (new.output ≡ old.output) × (new.write_faults ≡ old.write_faults) };
+    ghost reads = { ReadsLink };
 
     fn read(&mut self, into: &mut [u8]) -> Got {
         if self.schedule.next_fails() {
@@ -203,13 +167,14 @@ impl Source for MemoryLink {
 }
 
 impl Sink for MemoryLink {
+    ghost use Rattle.xs_outside.specs.Links.{WritesLink};
     ghost use Rattle.std.specs.Prelude.{◌≡◌, Some};
 
     ghost written = { λ l. Some l.output.items };
 
     ghost write_faults = { λ l. l.write_faults };
 
-    ghost writes = { λ old new. (new.input ≡ old.input) × (new.read_faults ≡ old.read_faults) };
+    ghost writes = { WritesLink };
 
     fn write(&mut self, bytes: &[u8]) -> Result<(), Failed> {
         if self.schedule.next_fails() || self.output.extend_from_slice(bytes).is_err() {
@@ -223,72 +188,9 @@ impl Sink for MemoryLink {
 impl Both for MemoryLink {
     ghost use Rattle.std.proofs.Common.{ap};
     ghost use Rattle.std.specs.Prelude.{Some};
-    ghost use Rattle.xs_outside.specs.Memory.{left_of};
+    ghost use Rattle.xs_outside.specs.Inputs.{left_of};
 
-    ghost read_leaves = { λ old new kept. (ap (λ o. Some o.items) kept.0, kept.1) };
+    ghost read_leaves = { λ old new kept. (ap (λ o. Some o.items) kept.output, kept.write_faults) };
 
-    ghost write_leaves = { λ old new kept. (ap (λ i. Some (left_of i)) kept.0, ap (λ i. i.place) kept.0, kept.1) };
+    ghost write_leaves = { λ old new kept. (ap (λ i. Some (left_of i)) kept.input, ap (λ i. i.place) kept.input, kept.read_faults) };
 }
-
-/// The outside of an office in memory: its input, and the output that it wrote.
-#[derive(Debug, Drop)]
-pub struct MemoryStation {
-    link: MemoryLink,
-}
-
-impl MemoryStation {
-    /// A station with this input and no output, whose calls with these numbers fail, counted from 1.
-    pub fn new(input: Vec<u8>, fails: Vec<u64>) -> Result<MemoryStation, AllocError>
-        ensures input { IfOk result (λ station. ⟦<MemoryStation as Source>⟧.left station ≡ Some input.items) }
-        ensures output { IfOk result (λ station. ⟦<MemoryStation as Sink>⟧.written station ≡ Some []) }
-    {
-        Ok(MemoryStation {
-            link: MemoryLink::new(input, fails)?,
-        })
-    }
-
-    /// Lends what was written.
-    pub fn output(&self) -> &[u8]
-        ensures { ⟦<MemoryStation as Sink>⟧.written self.now ≡ Some result.now }
-    {
-        self.link.output()
-    }
-}
-
-impl Source for MemoryStation {
-    ghost left = { λ s. ⟦<MemoryLink as Source>⟧.left s.link };
-
-    ghost taken = { λ s. ⟦<MemoryLink as Source>⟧.taken s.link };
-
-    ghost read_faults = { λ s. ⟦<MemoryLink as Source>⟧.read_faults s.link };
-
-    ghost reads = { λ old new. ⟦<MemoryLink as Source>⟧.reads old.link new.link };
-
-    fn read(&mut self, into: &mut [u8]) -> Got {
-        self.link.read(into)
-    }
-}
-
-impl Sink for MemoryStation {
-    ghost written = { λ s. ⟦<MemoryLink as Sink>⟧.written s.link };
-
-    ghost write_faults = { λ s. ⟦<MemoryLink as Sink>⟧.write_faults s.link };
-
-    ghost writes = { λ old new. ⟦<MemoryLink as Sink>⟧.writes old.link new.link };
-
-    fn write(&mut self, bytes: &[u8]) -> Result<(), Failed> {
-        self.link.write(bytes)
-    }
-}
-
-impl Both for MemoryStation {
-    ghost use Rattle.std.proofs.Common.{ap};
-    ghost use Rattle.std.specs.Prelude.{Some};
-    ghost use Rattle.xs_outside.specs.Memory.{left_of};
-
-    ghost read_leaves = { λ old new kept. (ap (λ o. Some o.items) kept.0, kept.1) };
-
-    ghost write_leaves = { λ old new kept. (ap (λ i. Some (left_of i)) kept.0, ap (λ i. i.place) kept.0, kept.1) };
-}
-
-impl Station for MemoryStation {}
