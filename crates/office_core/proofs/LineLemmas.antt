@@ -1,7 +1,7 @@
 -- Lemmas on the parts of a line.
-use Rattle.std.proofs.Common.{◌≡◌, ◌≢◌, ℕ, ◌+◌, ◌-◌, ◌^◌, ◌<◌, ◌≤◌, suc, zero, List, [], ◌∷◌, ◌++◌, length, get_or, take, drop, length-drop, drop-cons, add-one, Bool, true, false, not, ◌&&◌, ◌||◌, ◌==◌, refl, sym, ap, subst, ◌∙◌, inl, inr, arith, rules, lit<, lit≤}
-use Rattle.std.specs.Prelude.{Result, Ok, Err, Option, Some, None, All, IsTrue, IsUtf8, decimal, codes, option_and_then, nat_le, MatchResult}
-use Rattle.std.specs.List.{list_all, AllByRecursion, AllPass, position, prefix_len}
+use Rattle.std.proofs.Common.{◌≡◌, ◌≢◌, ℕ, ◌+◌, ◌-◌, ◌^◌, ◌<◌, ◌≤◌, suc, zero, List, [], ◌∷◌, ◌++◌, length, get_or, take, drop, drop-cons, add-one, Bool, true, false, not, ◌&&◌, ◌||◌, ◌==◌, refl, sym, ap, subst, ◌∙◌, inl, inr, arith, rules, lit<}
+use Rattle.std.specs.Prelude.{Result, Ok, Err, Some, None, All, IsUtf8, decimal, nat_le}
+use Rattle.std.specs.List.{list_all, AllByRecursion, position, prefix_len}
 use Rattle.std.specs.Str.{IsAscii, bytes_eq}
 use Rattle.std.specs.Str.Parse.{ParsesUnsigned, digits_value}
 use Rattle.std.specs.Cmp.Derive.{both_true}
@@ -16,7 +16,7 @@ use Rattle.std.proofs.lemmas.List.Elements.{recursion_from_All}
 use Rattle.std.proofs.lemmas.Slice.Eq.{bytes_eq-Decides}
 use Rattle.std.proofs.lemmas.Str.{IsUtf8-from_ascii}
 use Rattle.std.proofs.lemmas.Str.Parse.{IsNumeralModel, IsDigitsTest, numerals_by_value, parse_plain}
-use Rattle.std.proofs.lemmas.Fmt.{IsAscii-decimal, digits_decimal, decimal-digits_value, decimal_digit, decimal_nonempty, first_decimal, parse-decimal, decimal_injective}
+use Rattle.std.proofs.lemmas.Fmt.{IsAscii-decimal, digits_decimal, decimal-digits_value, decimal_digit, decimal_nonempty, first_decimal, parse-decimal}
 use Rattle.office_core.specs.RequestLine.{is_caller, is_caller_byte, is_lowercase, is_decimal}
 use Rattle.office_core.specs.LineParts.{is_spaceless, IsCut, IsNumber, begins_number}
 

@@ -1,5 +1,5 @@
 -- A search in a list of images is a search in the list.
-use Rattle.std.proofs.Common.{◌≡◌, ℕ, suc, ◌+◌, ◌&&◌, List, [], ◌∷◌, length, map, Bool, true, false, cond, ◌||◌, not, refl, ap, sym, ◌∙◌}
+use Rattle.std.proofs.Common.{◌≡◌, ℕ, suc, ◌+◌, ◌&&◌, List, [], ◌∷◌, length, map, Bool, true, false, cond, ◌||◌, not, refl, ap, ◌∙◌}
 use Rattle.std.specs.Prelude.{Option, Some, None, option_map, nat_lt}
 use Rattle.std.specs.List.{list_any, list_all, find, position, prefix_len}
 

@@ -1,5 +1,5 @@
 -- An office of flat machines as a JSON value: what the value means, if it is such an office.
-use Rattle.std.specs.Prelude.{◌≡◌, ℕ, Bool, true, false, not, ◌&&◌, ◌==◌, List, [], ◌∷◌, map, length, Option, None, Some, Result, Ok, Err, ⊤, codes, find, position, option_map, option_and_then, slice_index, nat_eq, nat_lt, if◌then◌else◌}
+use Rattle.std.specs.Prelude.{◌≡◌, ℕ, Bool, true, not, ◌&&◌, ◌==◌, List, [], ◌∷◌, map, length, Option, None, Some, Result, Ok, Err, ⊤, codes, find, position, option_map, option_and_then, slice_index, nat_eq, nat_lt, if◌then◌else◌}
 use Rattle.std.specs.List.{list_all, list_any, ends_with}
 use Rattle.std.specs.Str.{bytes_eq}
 use Rattle.ordered_json.specs.declared.json.OrderedJson.{OrderedJson}

@@ -36,8 +36,9 @@ impl From<AllocError> for FlatFault {
 
 /// Reads an office of flat machines: an object of `machines`, a list of machines with ids of their own, and
 /// `implementations`, which is empty. A machine has an `id`, which isn't empty, `initial` and `states`; a state may have
-/// `on`, from event types to keys of its siblings. Where a place among the states doesn't fit 32 bits, the answer is
-/// want of memory.
+/// `on`, from event types to keys of states of the machine. Where a place among the states doesn't fit 32 bits, the
+/// answer is want of memory. The cost is linear in the value, but for the look-up of each target among the keys of its
+/// machine's states, and of each id among those after it.
 pub fn read_flat(alloc: Global, text: &OrderedJson) -> Result<FlatMachines, FlatFault>
     ensures { Gives (office_in text.now) result }
 {

@@ -64,7 +64,8 @@ const AROUND_TYPE: u64 = 9;
 
 /// Reads the line of a request, given without its line feed: a caller, its number, and `start MACHINE - null` or
 /// `send ACTOR JSON`, with one space between two parts. The JSON, which white space may stand round, is an object
-/// whose one member is `type`, a text. The cost is linear in the line.
+/// whose one member is `type`, a text. That text doesn't begin with `xstate.`, and the object's compact text has at most
+/// 4,096 bytes. The cost is linear in the line.
 pub fn read_request(alloc: Global, line: &[u8]) -> Result<Request, LineFault>
     ensures { Reads (IsRequest line.now) result }
 {

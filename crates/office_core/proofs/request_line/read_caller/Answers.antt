@@ -1,4 +1,4 @@
-use Rattle.std.proofs.Common.{◌≡◌, sym, subst}
+use Rattle.std.proofs.Common.{sym, subst}
 use Rattle.std.specs.Prelude.{IsUtf8}
 use Rattle.office_core.proofs.LineLemmas.{IsUtf8-caller}
 use Rattle.office_core.proofs.request_line.read_caller.Goals as goal

@@ -1,5 +1,5 @@
-use Rattle.std.proofs.Common.{◌≡◌, List, ℕ, Bool, true, false, sym, ◌∙◌, ap}
-use Rattle.std.specs.Prelude.{Option, Some, None}
+use Rattle.std.proofs.Common.{◌≡◌, true, false, sym, ◌∙◌, ap}
+use Rattle.std.specs.Prelude.{Some, None}
 use Rattle.office_core.specs.RequestLine.{IsEvent, is_sendable}
 use Rattle.office_core.proofs.RequestLemmas.{event_is, no_event, handed_on}
 use Rattle.office_core.proofs.request_line.read_event.Goals as goal

@@ -1,4 +1,4 @@
-use Rattle.std.proofs.Common.{◌≡◌, true, false, sym, ◌∙◌}
+use Rattle.std.proofs.Common.{sym, ◌∙◌}
 use Rattle.office_core.proofs.LineLemmas.{begins, IsUtf8-number, IsNumber-parsed, no_number}
 use Rattle.office_core.proofs.request_line.read_number.Goals as goal
 

@@ -1,4 +1,4 @@
-use Rattle.std.proofs.Common.{◌<◌, ◌≡◌, sym, subst, ◌∙◌, arith}
+use Rattle.std.proofs.Common.{◌<◌, sym, subst, arith}
 use Rattle.std.specs.Prelude.{decimal, Err}
 use Rattle.office_core.specs.declared.request_line.LineFault.{LineFault}
 use Rattle.office_core.specs.LineParts.{IsNumber, IsCallerText}
