@@ -1,1 +1,4 @@
+pub mod Images
 pub mod Progress
+pub mod SideImages
+pub mod Moments

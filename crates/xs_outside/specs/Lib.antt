@@ -1,3 +1,10 @@
+pub mod Beside
 pub mod Counts
+pub mod Disk
+pub mod History
+pub mod Inputs
+pub mod ReadsAnImage
+pub mod Recorded
+pub mod Spans
+pub mod Stations
 pub mod Streams
-pub mod Memory

@@ -2,11 +2,23 @@
 //! count of its faults, and the same in memory with lists of calls that fail.
 #![tactic(auto)]
 
+mod buffers;
+mod disk;
+mod history;
 mod memory;
+mod memory_disk;
+mod memory_station;
+mod recorded;
+mod schedule;
+mod station;
 mod streams;
 
-pub use memory::{MemoryLink, MemorySink, MemorySource, MemoryStation};
-pub use streams::{Both, Failed, Got, Sink, Source, Station};
+pub use disk::Disk;
+pub use memory::{MemoryLink, MemorySink, MemorySource};
+pub use memory_disk::MemoryDisk;
+pub use memory_station::MemoryStation;
+pub use station::Station;
+pub use streams::{Both, Failed, Got, Sink, Source};
 use xs_data::Items;
 
 /// A list of bytes.

@@ -2,57 +2,10 @@
 ghost use Rattle.std.specs.Prelude.{◌≡◌, ◌+◌, ◌-◌, ◌^◌, ◌≤◌, ◌<◌, min, Some, [], ◌++◌, length, drop, take, OnOk, OnErr, IfOk};
 ghost use Rattle.std.specs.Vec.{vec_len};
 
-use crate::{Both, Failed, Got, Sink, Source, Station};
+use crate::buffers::Input;
+use crate::schedule::Schedule;
+use crate::{Both, Failed, Got, Sink, Source};
 use std::alloc::AllocError;
-
-/// Which calls of an object fail: those with these numbers, the first call of the object being 1.
-#[derive(Debug, Drop)]
-struct Schedule {
-    fails: Vec<u64>,
-    calls: u64,
-}
-
-impl Schedule {
-    fn new(fails: Vec<u64>) -> Schedule {
-        Schedule { fails, calls: 0 }
-    }
-
-    /// Counts a call, and tells whether it is to fail. It goes through the whole list.
-    fn next_fails(&mut self) -> bool {
-        self.calls = self.calls.saturating_add(1);
-        self.fails.contains(&self.calls)
-    }
-}
-
-/// Bytes, handed out from the front.
-#[derive(Debug, Drop)]
-struct Input {
-    bytes: Vec<u8>,
-    place: usize,
-    ghost within: { place ≤ vec_len bytes },
-}
-
-impl Input {
-    ghost use Rattle.xs_outside.specs.Memory.{left_of};
-
-    fn new(bytes: Vec<u8>) -> Input
-        ensures { left_of result ≡ bytes.items }
-    {
-        Input { bytes, place: 0 }
-    }
-
-    /// Copies the next bytes to the front of the slice, and tells how many: as many as there are, or as fit.
-    fn hand_out(&mut self, into: &mut [u8]) -> usize
-        ensures count { result ≡ min (length (left_of self.old)) (length into.old) }
-        ensures bytes { left_of self.old ≡ take result into.new ++ left_of self.new }
-        ensures place { self.new.place ≡ self.old.place + result }
-    {
-        let count = (self.bytes.len() - self.place).min(into.len());
-        into[..count].copy_from_slice(&self.bytes[self.place..self.place + count]);
-        self.place += count;
-        count
-    }
-}
 
 /// A source in memory.
 #[derive(Debug, Drop)]
@@ -76,7 +29,7 @@ impl MemorySource {
 }
 
 impl Source for MemorySource {
-    ghost use Rattle.xs_outside.specs.Memory.{left_of};
+    ghost use Rattle.xs_outside.specs.Inputs.{left_of};
     ghost use Rattle.std.specs.Prelude.{◌≡◌, Some};
 
     ghost left = { λ s. Some (left_of s.input) };
@@ -179,7 +132,7 @@ impl MemoryLink {
 }
 
 impl Source for MemoryLink {
-    ghost use Rattle.xs_outside.specs.Memory.{left_of};
+    ghost use Rattle.xs_outside.specs.Inputs.{left_of};
     ghost use Rattle.std.specs.Prelude.{◌≡◌, Some};
 
     ghost left = { λ l. Some (left_of l.input) };
@@ -223,72 +176,9 @@ impl Sink for MemoryLink {
 impl Both for MemoryLink {
     ghost use Rattle.std.proofs.Common.{ap};
     ghost use Rattle.std.specs.Prelude.{Some};
-    ghost use Rattle.xs_outside.specs.Memory.{left_of};
+    ghost use Rattle.xs_outside.specs.Inputs.{left_of};
 
     ghost read_leaves = { λ old new kept. (ap (λ o. Some o.items) kept.0, kept.1) };
 
     ghost write_leaves = { λ old new kept. (ap (λ i. Some (left_of i)) kept.0, ap (λ i. i.place) kept.0, kept.1) };
 }
-
-/// The outside of an office in memory: its input, and the output that it wrote.
-#[derive(Debug, Drop)]
-pub struct MemoryStation {
-    link: MemoryLink,
-}
-
-impl MemoryStation {
-    /// A station with this input and no output, whose calls with these numbers fail, counted from 1.
-    pub fn new(input: Vec<u8>, fails: Vec<u64>) -> Result<MemoryStation, AllocError>
-        ensures input { IfOk result (λ station. ⟦<MemoryStation as Source>⟧.left station ≡ Some input.items) }
-        ensures output { IfOk result (λ station. ⟦<MemoryStation as Sink>⟧.written station ≡ Some []) }
-    {
-        Ok(MemoryStation {
-            link: MemoryLink::new(input, fails)?,
-        })
-    }
-
-    /// Lends what was written.
-    pub fn output(&self) -> &[u8]
-        ensures { ⟦<MemoryStation as Sink>⟧.written self.now ≡ Some result.now }
-    {
-        self.link.output()
-    }
-}
-
-impl Source for MemoryStation {
-    ghost left = { λ s. ⟦<MemoryLink as Source>⟧.left s.link };
-
-    ghost taken = { λ s. ⟦<MemoryLink as Source>⟧.taken s.link };
-
-    ghost read_faults = { λ s. ⟦<MemoryLink as Source>⟧.read_faults s.link };
-
-    ghost reads = { λ old new. ⟦<MemoryLink as Source>⟧.reads old.link new.link };
-
-    fn read(&mut self, into: &mut [u8]) -> Got {
-        self.link.read(into)
-    }
-}
-
-impl Sink for MemoryStation {
-    ghost written = { λ s. ⟦<MemoryLink as Sink>⟧.written s.link };
-
-    ghost write_faults = { λ s. ⟦<MemoryLink as Sink>⟧.write_faults s.link };
-
-    ghost writes = { λ old new. ⟦<MemoryLink as Sink>⟧.writes old.link new.link };
-
-    fn write(&mut self, bytes: &[u8]) -> Result<(), Failed> {
-        self.link.write(bytes)
-    }
-}
-
-impl Both for MemoryStation {
-    ghost use Rattle.std.proofs.Common.{ap};
-    ghost use Rattle.std.specs.Prelude.{Some};
-    ghost use Rattle.xs_outside.specs.Memory.{left_of};
-
-    ghost read_leaves = { λ old new kept. (ap (λ o. Some o.items) kept.0, kept.1) };
-
-    ghost write_leaves = { λ old new kept. (ap (λ i. Some (left_of i)) kept.0, ap (λ i. i.place) kept.0, kept.1) };
-}
-
-impl Station for MemoryStation {}

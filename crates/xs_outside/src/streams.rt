@@ -72,6 +72,3 @@ pub trait Both: Source + Sink {
     ghost write_leaves: { (old new : Self) → Self.writes old new
         → (Self.left new ≡ Self.left old) × (Self.taken new ≡ Self.taken old) × (Self.read_faults new ≡ Self.read_faults old) };
 }
-
-/// What an office is run on: its input and its output.
-pub trait Station: Both {}
