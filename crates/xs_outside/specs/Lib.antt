@@ -1,10 +1,15 @@
 pub mod Beside
 pub mod Counts
+pub mod Crash
 pub mod Disk
+pub mod Disks
 pub mod History
 pub mod Inputs
+pub mod Links
 pub mod ReadsAnImage
 pub mod Recorded
+pub mod Schedules
 pub mod Spans
 pub mod Stations
 pub mod Streams
+pub mod Tried

@@ -18,7 +18,7 @@ made_all moment [] le = refl
 made_all moment (change ∷ earlier) le = grind (arith, nat_tests, le)
 
 -- a write that is done is one that a crash may leave
-done_torn : (at : ℕ) (bytes old : List ℕ) → at ≤ length old → Torn at (length bytes) old (put at bytes old)
+pub done_torn : (at : ℕ) (bytes old : List ℕ) → at ≤ length old → Torn at (length bytes) old (put at bytes old)
 done_torn at bytes old le =
     let front : length (take at old) ≡ at = grind (arith, length-take at old) in
     let behind : length (drop (at + length bytes) old) ≡ length old - (at + length bytes) = grind (arith, length-drop (at + length bytes) old) in
@@ -33,7 +33,7 @@ done_torn at bytes old le =
     }
 
 -- what is read is left
-left_content : (start : List ℕ) (history : List Change) → IsTrue (in_place start history) → Left start history (content_of start history)
+pub left_content : (start : List ℕ) (history : List Change) → IsTrue (in_place start history) → Left start history (content_of start history)
 left_content start [] fits = refl
 left_content start (Write moment at bytes ∷ earlier) fits =
     let parts = and_parts (leb at (length (content_of start earlier))) (in_place start earlier) fits in

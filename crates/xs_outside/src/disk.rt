@@ -32,6 +32,12 @@ pub trait Disk {
     /// What is kept beside the sides, which no call of the disk changes.
     ghost beside: { Self → Beside };
 
+    /// A length or a read may lead from the first of these to the second.
+    ghost looks: { Self → Self → Type 0 };
+
+    /// A write or a sync may lead from the first of these to the second.
+    ghost stores: { Self → Self → Type 0 };
+
     /// The number of bytes of a side.
     fn length(&mut self, side: Side) -> Result<u64, Failed>
         ensures length { IfOk result (λ n. IsTrue (honest self.old) → n ≡ length (on side (content self.old))) }
@@ -42,7 +48,8 @@ pub trait Disk {
         ensures honest { honest self.new ≡ honest self.old }
         ensures beside { beside self.new ≡ beside self.old }
         ensures later { disk_faults self.old ≤ disk_faults self.new }
-        ensures cause { OnErr result (Rose (disk_faults self.old) (disk_faults self.new)) };
+        ensures cause { OnErr result (Rose (disk_faults self.old) (disk_faults self.new)) }
+        ensures relation { looks self.old self.new };
 
     /// Fills the slice with the bytes of a side from a place on.
     fn read(&mut self, side: Side, at: u64, into: &mut [u8]) -> Result<(), Failed>
@@ -56,7 +63,8 @@ pub trait Disk {
         ensures honest { honest self.new ≡ honest self.old }
         ensures beside { beside self.new ≡ beside self.old }
         ensures later { disk_faults self.old ≤ disk_faults self.new }
-        ensures cause { OnErr result (Rose (disk_faults self.old) (disk_faults self.new)) };
+        ensures cause { OnErr result (Rose (disk_faults self.old) (disk_faults self.new)) }
+        ensures relation { looks self.old self.new };
 
     /// Writes over what stands on a side from a place on, and past its end. Until the side is synced a
     /// crash may leave any bytes in the range. At `Failed` that holds of a read too.
@@ -71,7 +79,8 @@ pub trait Disk {
         ensures honest { honest self.new ≡ honest self.old }
         ensures beside { beside self.new ≡ beside self.old }
         ensures later { disk_faults self.old ≤ disk_faults self.new }
-        ensures cause { OnErr result (Rose (disk_faults self.old) (disk_faults self.new)) };
+        ensures cause { OnErr result (Rose (disk_faults self.old) (disk_faults self.new)) }
+        ensures relation { stores self.old self.new };
 
     /// After it, a crash leaves of that side what a read gives.
     fn sync(&mut self, side: Side) -> Result<(), Failed>
@@ -84,7 +93,8 @@ pub trait Disk {
         ensures honest { honest self.new ≡ honest self.old }
         ensures beside { beside self.new ≡ beside self.old }
         ensures later { disk_faults self.old ≤ disk_faults self.new }
-        ensures cause { OnErr result (Rose (disk_faults self.old) (disk_faults self.new)) };
+        ensures cause { OnErr result (Rose (disk_faults self.old) (disk_faults self.new)) }
+        ensures relation { stores self.old self.new };
 
     /// What an honest disk reads is an image of now.
     ghost reads_an_image: { (disk : Self) → IsTrue (honest disk) → may_leave disk (clock disk) (content disk) };

@@ -77,11 +77,11 @@ impl SideHistory {
 }
 
 /// Puts bytes in the place of those from a place on, and past the end. For want of memory it changes nothing.
-fn overwrite(content: &mut Vec<u8>, at: usize, bytes: &[u8]) -> Result<(), AllocError>
-    requires { at ≤ vec_len content.old }
+pub fn overwrite(content: &mut Vec<u8>, at: usize, bytes: &[u8]) -> Result<(), AllocError>
     ensures written { OnOk result (content.new.items ≡ put at bytes.now content.old.items) }
     ensures refused { OnErr result (content.new.items ≡ content.old.items) }
 {
+    let at = at.min(content.len());
     let inside = bytes.len().min(content.len() - at);
     content.extend_from_slice(&bytes[inside..])?;
     content[at..at + inside].copy_from_slice(&bytes[..inside]);

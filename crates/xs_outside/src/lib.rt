@@ -3,6 +3,7 @@
 #![tactic(auto)]
 
 mod buffers;
+mod crash;
 mod disk;
 mod history;
 mod memory;
@@ -12,7 +13,10 @@ mod recorded;
 mod schedule;
 mod station;
 mod streams;
+#[cfg(test)]
+mod tests;
 
+pub use crash::{Image, Images};
 pub use disk::Disk;
 pub use memory::{MemoryLink, MemorySink, MemorySource};
 pub use memory_disk::MemoryDisk;

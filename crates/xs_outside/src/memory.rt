@@ -16,9 +16,12 @@ pub struct MemorySource {
 }
 
 impl MemorySource {
+    ghost use Rattle.xs_outside.specs.Links.{IsNewSource};
+
     /// A source of these bytes, whose calls with these numbers fail, counted from 1.
     pub fn new(bytes: Vec<u8>, fails: Vec<u64>) -> Result<MemorySource, AllocError>
-        ensures { IfOk result (λ source. ⟦<MemorySource as Source>⟧.left source ≡ Some bytes.items) }
+        ensures left { IfOk result (λ source. ⟦<MemorySource as Source>⟧.left source ≡ Some bytes.items) }
+        ensures fails { IfOk result (λ source. IsNewSource source fails.items) }
     {
         Ok(MemorySource {
             input: Input::new(bytes),
@@ -29,6 +32,7 @@ impl MemorySource {
 }
 
 impl Source for MemorySource {
+    ghost use Rattle.xs_outside.specs.Links.{ReadsSource};
     ghost use Rattle.xs_outside.specs.Inputs.{left_of};
     ghost use Rattle.std.specs.Prelude.{◌≡◌, Some};
 
@@ -38,7 +42,7 @@ impl Source for MemorySource {
 
     ghost read_faults = { λ s. s.faults };
 
-    ghost reads = { λ old new. Unit {0} };
+    ghost reads = { ReadsSource };
 
     fn read(&mut self, into: &mut [u8]) -> Got {
         if self.schedule.next_fails() {
@@ -61,9 +65,12 @@ pub struct MemorySink {
 }
 
 impl MemorySink {
+    ghost use Rattle.xs_outside.specs.Links.{IsNewSink};
+
     /// An empty sink, whose calls with these numbers fail, counted from 1.
     pub fn new(fails: Vec<u64>) -> Result<MemorySink, AllocError>
-        ensures { IfOk result (λ sink. ⟦<MemorySink as Sink>⟧.written sink ≡ Some []) }
+        ensures written { IfOk result (λ sink. ⟦<MemorySink as Sink>⟧.written sink ≡ Some []) }
+        ensures fails { IfOk result (λ sink. IsNewSink sink fails.items) }
     {
         Ok(MemorySink {
             output: Vec::new(*fails.allocator()),
@@ -81,13 +88,14 @@ impl MemorySink {
 }
 
 impl Sink for MemorySink {
+    ghost use Rattle.xs_outside.specs.Links.{WritesSink};
     ghost use Rattle.std.specs.Prelude.{Some};
 
     ghost written = { λ s. Some s.output.items };
 
     ghost write_faults = { λ s. s.faults };
 
-    ghost writes = { λ old new. Unit {0} };
+    ghost writes = { WritesSink };
 
     fn write(&mut self, bytes: &[u8]) -> Result<(), Failed> {
         if self.schedule.next_fails() || self.output.extend_from_slice(bytes).is_err() {
@@ -109,10 +117,13 @@ pub struct MemoryLink {
 }
 
 impl MemoryLink {
+    ghost use Rattle.xs_outside.specs.Links.{IsNewLink};
+
     /// A link with this input and no output, whose calls with these numbers fail, counted from 1.
     pub fn new(input: Vec<u8>, fails: Vec<u64>) -> Result<MemoryLink, AllocError>
         ensures input { IfOk result (λ link. ⟦<MemoryLink as Source>⟧.left link ≡ Some input.items) }
         ensures output { IfOk result (λ link. ⟦<MemoryLink as Sink>⟧.written link ≡ Some []) }
+        ensures fails { IfOk result (λ link. IsNewLink link fails.items) }
     {
         Ok(MemoryLink {
             output: Vec::new(*fails.allocator()),
@@ -132,6 +143,7 @@ impl MemoryLink {
 }
 
 impl Source for MemoryLink {
+    ghost use Rattle.xs_outside.specs.Links.{ReadsLink};
     ghost use Rattle.xs_outside.specs.Inputs.{left_of};
     ghost use Rattle.std.specs.Prelude.{◌≡◌, Some};
 
@@ -141,7 +153,7 @@ impl Source for MemoryLink {
 
     ghost read_faults = { λ l. l.read_faults };
 
-    ghost reads = { λ old new. (new.output ≡ old.output) × (new.write_faults ≡ old.write_faults) };
+    ghost reads = { ReadsLink };
 
     fn read(&mut self, into: &mut [u8]) -> Got {
         if self.schedule.next_fails() {
@@ -156,13 +168,14 @@ impl Source for MemoryLink {
 }
 
 impl Sink for MemoryLink {
+    ghost use Rattle.xs_outside.specs.Links.{WritesLink};
     ghost use Rattle.std.specs.Prelude.{◌≡◌, Some};
 
     ghost written = { λ l. Some l.output.items };
 
     ghost write_faults = { λ l. l.write_faults };
 
-    ghost writes = { λ old new. (new.input ≡ old.input) × (new.read_faults ≡ old.read_faults) };
+    ghost writes = { WritesLink };
 
     fn write(&mut self, bytes: &[u8]) -> Result<(), Failed> {
         if self.schedule.next_fails() || self.output.extend_from_slice(bytes).is_err() {
@@ -178,7 +191,7 @@ impl Both for MemoryLink {
     ghost use Rattle.std.specs.Prelude.{Some};
     ghost use Rattle.xs_outside.specs.Inputs.{left_of};
 
-    ghost read_leaves = { λ old new kept. (ap (λ o. Some o.items) kept.0, kept.1) };
+    ghost read_leaves = { λ old new kept. (ap (λ o. Some o.items) kept.output, kept.write_faults) };
 
-    ghost write_leaves = { λ old new kept. (ap (λ i. Some (left_of i)) kept.0, ap (λ i. i.place) kept.0, kept.1) };
+    ghost write_leaves = { λ old new kept. (ap (λ i. Some (left_of i)) kept.input, ap (λ i. i.place) kept.input, kept.read_faults) };
 }

@@ -16,12 +16,14 @@ pub struct MemoryDisk {
 }
 
 impl MemoryDisk {
+    ghost use Rattle.xs_outside.specs.Disks.{IsNewDisk};
     ghost use Rattle.xs_outside.specs.Disk.{Sides, Settled, on};
 
     /// A disk whose sides hold these bytes, nothing pending, whose calls with these numbers fail, counted from 1.
     pub fn new(a: Vec<u8>, b: Vec<u8>, fails: Vec<u64>) -> Result<MemoryDisk, AllocError>
         ensures content { IfOk result (λ disk. ⟦<MemoryDisk as Disk>⟧.content disk ≡ record { a = a.items; b = b.items }) }
         ensures settled { IfOk result (λ disk. Settled ⟦<MemoryDisk as Disk>⟧.content ⟦<MemoryDisk as Disk>⟧.clock ⟦<MemoryDisk as Disk>⟧.may_leave disk) }
+        ensures fails { IfOk result (λ disk. IsNewDisk disk fails.items) }
     {
         Ok(MemoryDisk {
             sides: Recorded::new(a, b)?,
@@ -40,6 +42,7 @@ impl MemoryDisk {
 }
 
 impl Disk for MemoryDisk {
+    ghost use Rattle.xs_outside.specs.Disks.{LooksAtDisk, StoresOnDisk};
     ghost use Rattle.std.specs.Prelude.{true};
     ghost use Rattle.xs_outside.specs.Recorded as recorded;
     ghost use Rattle.xs_outside.specs.Beside.{nothing};
@@ -58,6 +61,10 @@ impl Disk for MemoryDisk {
     ghost honest = { λ _. true };
 
     ghost beside = { λ _. nothing };
+
+    ghost looks = { LooksAtDisk };
+
+    ghost stores = { StoresOnDisk };
 
     ghost reads_an_image = { λ d honest. reads_an_image d.sides };
 

@@ -6,7 +6,7 @@ ghost use Rattle.xs_outside.specs.Spans.{moments_of};
 use crate::buffers::{Input, Output};
 use crate::recorded::Recorded;
 use crate::schedule::Schedule;
-use crate::{Both, Disk, Failed, Got, Side, Sink, Source, Station};
+use crate::{Both, Disk, Failed, Got, Images, Side, Sink, Source, Station};
 use std::alloc::AllocError;
 
 /// The outside of an office in memory. It keeps all bytes that were ever written to its disk.
@@ -25,6 +25,8 @@ pub struct MemoryStation {
 
 impl MemoryStation {
     ghost use Rattle.xs_outside.specs.Disk.{Sides, Settled, on};
+    ghost use Rattle.xs_outside.specs.Stations.{all_tried, IsNewStation, IsStoppedAfter};
+    ghost use Rattle.xs_outside.specs.Tried.{sides_of};
 
     /// A station with this input and no output, on a disk whose sides hold these bytes, nothing
     /// pending. The calls with these numbers fail, counted from 1 over calls of every kind.
@@ -38,6 +40,7 @@ impl MemoryStation {
         ensures output { IfOk result (λ station. ⟦<MemoryStation as Sink>⟧.written station ≡ Some []) }
         ensures content { IfOk result (λ station. ⟦<MemoryStation as Disk>⟧.content station ≡ record { a = a.items; b = b.items }) }
         ensures settled { IfOk result (λ station. Settled ⟦<MemoryStation as Disk>⟧.content ⟦<MemoryStation as Disk>⟧.clock ⟦<MemoryStation as Disk>⟧.may_leave station) }
+        ensures fails { IfOk result (λ station. IsNewStation station fails.items) }
     {
         Ok(MemoryStation {
             output: Output::new(*input.allocator()),
@@ -53,8 +56,21 @@ impl MemoryStation {
 
     /// From now on the station makes so many calls of its disk. Every call after these, of any kind,
     /// fails and does nothing but raise its count and the clock.
-    pub fn stop_after(&mut self, k: u64) {
+    pub fn stop_after(&mut self, k: u64)
+        ensures { IsStoppedAfter k self.old self.new }
+    {
         self.schedule.stop_after(k);
+    }
+
+    /// What a crash now may leave: each side with its pending writes left out, with them done, and with
+    /// their ranges filled with 0, 1 and 255 at the old and at the new length, beside each of the other
+    /// side. These are 1, 8 or 64 images, and each goes through all that was ever written.
+    pub fn images(&self) -> Result<Images, AllocError>
+        ensures tried { IfOk result (λ images. images ≡ all_tried self.now) }
+        ensures possible { IfOk result (λ images. All (λ image. ⟦<MemoryStation as Disk>⟧.may_leave self.now (⟦<MemoryStation as Disk>⟧.clock self.now) (sides_of image)) images) }
+        ensures output { IfOk result (λ images. All (λ image. ⟦<MemoryStation as Sink>⟧.written self.now ≡ Some image.output) images) }
+    {
+        self.sides.images(&self.output.bytes)
     }
 
     /// Lends what was written to the output.
@@ -133,6 +149,7 @@ impl Both for MemoryStation {
 }
 
 impl Disk for MemoryStation {
+    ghost use Rattle.xs_outside.specs.Stations.{LooksAtDisk, StoresOnDisk};
     ghost use Rattle.std.specs.Prelude.{true, Some};
     ghost use Rattle.xs_outside.specs.Recorded as recorded;
     ghost use Rattle.xs_outside.specs.Inputs.{left_of};
@@ -159,6 +176,10 @@ impl Disk for MemoryStation {
       output = Some s.output.bytes.items;
       moments = moments_of s.output.spans.items;
     } };
+
+    ghost looks = { LooksAtDisk };
+
+    ghost stores = { StoresOnDisk };
 
     ghost reads_an_image = { λ s honest. reads_an_image s.sides };
 

@@ -3,6 +3,7 @@ ghost use Rattle.std.specs.Prelude.{◌≡◌, ℕ, ◌+◌, ◌-◌, ◌^◌, �
 ghost use Rattle.xs_outside.specs.History.{latest};
 
 use crate::Side;
+use crate::crash::{Images, all_left, images};
 use crate::history::SideHistory;
 use std::alloc::AllocError;
 
@@ -18,6 +19,8 @@ pub struct Recorded {
 
 impl Recorded {
     ghost use Rattle.xs_outside.specs.Disk.{Sides, on, Changes, Written, Torn, NoMore, NoLess, SameImages, Passes};
+    ghost use Rattle.std.specs.List.{All};
+    ghost use Rattle.xs_outside.specs.Tried.{tried, sides_of};
     ghost use Rattle.xs_outside.specs.Recorded.{content, MayLeave, Untouched};
 
     /// A disk whose sides hold these bytes, all synced.
@@ -40,6 +43,18 @@ impl Recorded {
             Side::A => &self.a.content,
             Side::B => &self.b.content,
         }
+    }
+
+    /// What crashes now may leave: each side with its pending writes left out, with them done, and with
+    /// their ranges filled, beside each of the other side, and this output.
+    pub fn images(&self, output: &[u8]) -> Result<Images, AllocError>
+        ensures tried { IfOk result (λ images. images ≡ tried self.now output.now) }
+        ensures possible { IfOk result (λ images. All (λ image. MayLeave self.now self.now.clock (sides_of image) × (image.output ≡ output.now)) images) }
+    {
+        let alloc = *self.a.start.allocator();
+        let a = all_left(alloc, &self.a.start, &self.a.changes)?;
+        let b = all_left(alloc, &self.b.start, &self.b.changes)?;
+        images(alloc, &a, &b, output)
     }
 
     /// Lets one call go by that changes no side.
