@@ -115,6 +115,10 @@ impl<R: Read, W: Write, F: Files> Disk for StandardStation<'_, R, W, F> {
       moments = [];
     } };
 
+    ghost looks = { λ _ _. Unit {0} };
+
+    ghost stores = { λ _ _. Unit {0} };
+
     ghost reads_an_image = { λ s honest. tt };
 
     fn length(&mut self, side: Side) -> Result<u64, Failed> {
