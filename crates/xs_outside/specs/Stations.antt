@@ -1,7 +1,6 @@
 -- What a call on a station in memory leaves as it was.
-use Rattle.std.specs.Prelude.{◌≡◌, ℕ, IsTrue}
+use Rattle.std.specs.Prelude.{◌≡◌, ℕ, List, Some, IsTrue}
 use Rattle.xs_outside.specs.Schedules.{is_due, Counted, DiskCallCounted, FailsWhere, FailsIf, IsFresh}
-use Rattle.std.specs.Prelude.{List, Some}
 use Rattle.xs_outside.specs.declared.crash.Image.{Image}
 use Rattle.xs_outside.specs.Tried.{tried}
 use Rattle.xs_outside.specs.declared.memory_station.MemoryStation.{MemoryStation}

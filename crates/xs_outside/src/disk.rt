@@ -1,5 +1,5 @@
 // A disk of two sides: what it reads, and what a crash may leave between two syncs.
-ghost use Rattle.std.specs.Prelude.{◌≡◌, ◌+◌, ◌-◌, ◌^◌, ◌≤◌, ◌<◌, min, Bool, IsTrue, ℕ, List, length, take, drop, OnOk, OnErr, IfOk};
+ghost use Rattle.std.specs.Prelude.{◌≡◌, ◌+◌, ◌-◌, ◌^◌, ◌≤◌, min, Bool, IsTrue, ℕ, length, take, drop, OnOk, OnErr, IfOk};
 ghost use Rattle.xs_outside.specs.Counts.{Rose};
 ghost use Rattle.xs_outside.specs.Disk.{Sides, on, Changes, Written, Torn, NoMore, NoLess, SameImages, Passes};
 ghost use Rattle.xs_outside.specs.Beside.{Beside};

@@ -1,5 +1,5 @@
 // A side in memory with all its changes, from which it tells what a crash at each moment may leave.
-ghost use Rattle.std.specs.Prelude.{◌≡◌, ◌+◌, ◌≤◌, ◌∷◌, [], IsTrue, length, reverse, take, drop, OnOk, OnErr, IfOk};
+ghost use Rattle.std.specs.Prelude.{◌≡◌, ◌+◌, ◌≤◌, ◌∷◌, [], IsTrue, reverse, OnOk, OnErr, IfOk};
 ghost use Rattle.std.specs.Vec.{vec_len};
 ghost use Rattle.xs_outside.specs.History.{content_of, put, in_place};
 ghost use Rattle.xs_outside.specs.declared.history.Change.TheVariants.{Write, Sync};

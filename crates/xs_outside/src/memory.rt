@@ -1,6 +1,5 @@
 // A source, a sink and both in one, in memory. Each fails at the calls that its list names.
-ghost use Rattle.std.specs.Prelude.{◌≡◌, ◌+◌, ◌-◌, ◌^◌, ◌≤◌, ◌<◌, min, Some, [], ◌++◌, length, drop, take, OnOk, OnErr, IfOk};
-ghost use Rattle.std.specs.Vec.{vec_len};
+ghost use Rattle.std.specs.Prelude.{◌≡◌, Some, [], IfOk};
 
 use crate::buffers::Input;
 use crate::schedule::Schedule;

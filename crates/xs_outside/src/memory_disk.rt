@@ -1,5 +1,5 @@
 // A disk in memory. It fails at the calls that its list names, and tells what a crash at each moment may leave.
-ghost use Rattle.std.specs.Prelude.{◌≡◌, ◌≤◌, IfOk};
+ghost use Rattle.std.specs.Prelude.{◌≡◌, IfOk};
 
 use crate::recorded::Recorded;
 use crate::schedule::Schedule;
@@ -17,7 +17,7 @@ pub struct MemoryDisk {
 
 impl MemoryDisk {
     ghost use Rattle.xs_outside.specs.Disks.{IsNewDisk};
-    ghost use Rattle.xs_outside.specs.Disk.{Sides, Settled, on};
+    ghost use Rattle.xs_outside.specs.Disk.{Settled, on};
 
     /// A disk whose sides hold these bytes, nothing pending, whose calls with these numbers fail, counted from 1.
     pub fn new(a: Vec<u8>, b: Vec<u8>, fails: Vec<u64>) -> Result<MemoryDisk, AllocError>

@@ -24,7 +24,7 @@ pub struct MemoryStation {
 }
 
 impl MemoryStation {
-    ghost use Rattle.xs_outside.specs.Disk.{Sides, Settled, on};
+    ghost use Rattle.xs_outside.specs.Disk.{Settled, on};
     ghost use Rattle.xs_outside.specs.Stations.{all_tried, IsNewStation, IsStoppedAfter};
     ghost use Rattle.xs_outside.specs.Tried.{sides_of};
 

@@ -1,5 +1,5 @@
 // The two sides of a disk in memory, with one clock.
-ghost use Rattle.std.specs.Prelude.{◌≡◌, ℕ, ◌+◌, ◌-◌, ◌^◌, ◌≤◌, ◌∷◌, [], min, length, reverse, take, drop, OnOk, OnErr, IfOk};
+ghost use Rattle.std.specs.Prelude.{◌≡◌, ◌+◌, ◌-◌, ◌^◌, ◌≤◌, min, length, reverse, OnOk, OnErr, IfOk};
 ghost use Rattle.xs_outside.specs.History.{latest};
 
 use crate::Side;

@@ -1,6 +1,6 @@
 // What an office is run on: its input, its output and its disk, with one clock.
-ghost use Rattle.std.specs.Prelude.{◌≡◌, ◌≤◌, ℕ};
-ghost use Rattle.xs_outside.specs.Beside.{Beside, Stamped, HasMoments};
+ghost use Rattle.std.specs.Prelude.{◌≡◌};
+ghost use Rattle.xs_outside.specs.Beside.{Stamped, HasMoments};
 ghost use Rattle.xs_outside.specs.Disk.{SameImages, Passes};
 
 use crate::{Both, Disk};

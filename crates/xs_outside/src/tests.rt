@@ -1,6 +1,5 @@
 // The memory objects through their traits: a call of each kind, one that fails by its list, and what a crash leaves.
-ghost use Rattle.std.specs.Prelude.{◌≡◌, ◌<◌, ◌≤◌, ◌+◌, IsTrue, length};
-ghost use Rattle.xs_outside.specs.Disk.{on};
+ghost use Rattle.std.specs.Prelude.{◌<◌, length};
 
 use super::*;
 use std::alloc::{AllocError, Global};

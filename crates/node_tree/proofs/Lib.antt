@@ -1,0 +1,5 @@
+pub mod NameLemmas
+pub mod PlaceLemmas
+pub mod RisingLemmas
+pub mod TargetLemmas
+pub mod TreeLemmas

@@ -1,0 +1,10 @@
+pub mod Flat
+pub mod FlatText
+pub mod Laws
+pub mod LineParts
+pub mod Office
+pub mod Plan
+pub mod RequestLine
+pub mod Runs
+pub mod Shown
+pub mod View

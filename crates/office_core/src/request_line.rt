@@ -1,0 +1,262 @@
+ghost use Rattle.std.specs.Prelude.{◌≡◌, ◌≤◌, ◌↔◌, ◌==◌, ◌||◌, All, position, MatchResult, IsTrue, option_and_then};
+ghost use Rattle.std.specs.Option.{option_copied};
+ghost use Rattle.std.specs.List.{list_all};
+ghost use Rattle.ordered_json.specs.Words.{members_of};
+ghost use Rattle.office_core.specs.LineParts.{IsCut, begins_number, is_spaceless, IsNumber, IsNameText, IsCallerText, IsStart, IsSend};
+ghost use Rattle.office_core.specs.RequestLine.{Reads, IsAsk, IsEvent, IsRequest, is_caller, is_sendable, is_caller_byte, type_in};
+
+use crate::json_words::text_of;
+use crate::request::{Ask, Request};
+use ordered_json::{JsonFault, OrderedJson};
+use std::alloc::{AllocError, Global};
+use std::str;
+use thiserror::Error;
+use xs_data::Text;
+use xs_model::quoted_len;
+
+/// Why a line isn't read as a request.
+#[derive(Clone, Copy, Debug, PartialEq, Eq, Error)]
+pub enum LineFault {
+    /// The line is no request's.
+    #[error("the line is no request")]
+    NotALine,
+    #[error("out of memory")]
+    Memory,
+}
+
+impl From<AllocError> for LineFault {
+    ghost use Rattle.office_core.specs.declared.request_line.LineFault.TheVariants.{Memory};
+
+    ghost from_gives = { λ _ fault. fault ≡ Memory };
+
+    fn from(_error: AllocError) -> LineFault {
+        LineFault::Memory
+    }
+}
+
+impl From<JsonFault> for LineFault {
+    ghost use Rattle.office_core.specs.LineParts.{line_fault};
+
+    ghost from_gives = { λ fault line. line ≡ line_fault fault };
+
+    fn from(fault: JsonFault) -> LineFault {
+        match fault {
+            JsonFault::Memory => LineFault::Memory,
+            _ => LineFault::NotALine,
+        }
+    }
+}
+
+/// The longest line, in bytes, its line feed left out.
+const MAX_LINE: usize = 65_536;
+
+/// The longest name, in bytes.
+const MAX_NAME: usize = 256;
+
+/// How many bytes may follow the first one of a caller.
+const MAX_CALLER_TAIL: usize = 63;
+
+/// The longest event, in bytes of its compact text.
+const MAX_EVENT: u64 = 4096;
+
+/// The bytes of `{"type":` and `}`, which stand round an event's type.
+const AROUND_TYPE: u64 = 9;
+
+/// Reads the line of a request, given without its line feed: a caller, its number, and `start MACHINE - null` or
+/// `send ACTOR JSON`, with one space between two parts. The JSON, which white space may stand round, is an object
+/// whose one member is `type`, a text. The cost is linear in the line.
+pub fn read_request(alloc: Global, line: &[u8]) -> Result<Request, LineFault>
+    ensures { Reads (IsRequest line.now) result }
+{
+    if line.len() > MAX_LINE {
+        return Err(LineFault::NotALine);
+    }
+    let (caller, rest) = cut(line)?;
+    let (number, ask) = cut(rest)?;
+    let caller = read_caller(alloc, caller)?;
+    let number = read_number(number)?;
+    if number == 0 {
+        return Err(LineFault::NotALine);
+    }
+    let ask = read_ask(alloc, ask)?;
+    Ok(Request {
+        caller,
+        number,
+        ask,
+    })
+}
+
+// What is asked for.
+fn read_ask(alloc: Global, text: &[u8]) -> Result<Ask, LineFault>
+    ensures { Reads (IsAsk text.now) result }
+{
+    let (word, rest) = cut(text)?;
+    if word == b"start".as_slice() {
+        let machine = read_start(alloc, rest)?;
+        return Ok(Ask::Start { machine });
+    }
+    if word == b"send".as_slice() {
+        let (actor, event) = read_send(alloc, rest)?;
+        return Ok(Ask::Send { actor, event });
+    }
+    Err(LineFault::NotALine)
+}
+
+// The id of the machine, behind the word `start`.
+fn read_start(alloc: Global, bytes: &[u8]) -> Result<Text, LineFault>
+    ensures { Reads (IsStart bytes.now) result }
+{
+    let (machine, rest) = cut(bytes)?;
+    if rest != b"- null".as_slice() {
+        return Err(LineFault::NotALine);
+    }
+    read_name(alloc, machine)
+}
+
+// The actor and the type of the event, behind the word `send`.
+fn read_send(alloc: Global, bytes: &[u8]) -> Result<(u64, Text), LineFault>
+    ensures { Reads (IsSend bytes.now) result }
+{
+    let (actor, json) = cut(bytes)?;
+    let actor = read_number(actor)?;
+    let event = read_event(alloc, json)?;
+    Ok((actor, event))
+}
+
+// The type of the event that the bytes mean.
+fn read_event(alloc: Global, bytes: &[u8]) -> Result<Text, LineFault>
+    ensures { Reads (IsEvent bytes.now) result }
+{
+    ordered_json::laws::meaning_is_unique();
+    let json = ordered_json::read(alloc, bytes)?;
+    let Some(kind) = type_of(&json) else {
+        return Err(LineFault::NotALine);
+    };
+    if !is_sendable(kind.as_bytes()) {
+        return Err(LineFault::NotALine);
+    }
+    Ok(kind.copy(alloc)?)
+}
+
+// The text of an object whose one member is `type`, a text.
+fn type_of(json: &OrderedJson) -> Option<&Text>
+    ensures { option_copied result ≡ option_and_then type_in (members_of json.now) }
+{
+    let OrderedJson::Object { members, .. } = json else {
+        return None;
+    };
+    let [member] = members.as_slice() else {
+        return None;
+    };
+    if !member.key.same(b"type") {
+        return None;
+    }
+    text_of(&member.value)
+}
+
+// Whether an event of this type may be sent: it isn't too long, and its type isn't one of the machines' own.
+fn is_sendable(kind: &[u8]) -> bool
+    ensures { result ≡ is_sendable kind.now }
+{
+    quoted_len(kind).saturating_add(AROUND_TYPE) <= MAX_EVENT
+        && !kind.starts_with(b"xstate.".as_slice())
+}
+
+// The name that the bytes are.
+fn read_name(alloc: Global, bytes: &[u8]) -> Result<Text, LineFault>
+    ensures { Reads (IsNameText bytes.now) result }
+{
+    if bytes.is_empty() || bytes.len() > MAX_NAME || !is_visible(bytes) {
+        return Err(LineFault::NotALine);
+    }
+    let Ok(name) = str::from_utf8(bytes) else {
+        return Err(LineFault::NotALine);
+    };
+    Ok(Text::from_str(alloc, name)?)
+}
+
+// Whether no space is among the bytes, and no byte below it.
+fn is_visible(bytes: &[u8]) -> bool
+    ensures { IsTrue result ↔ All (λ b. 33 ≤ b) bytes.now }
+{
+    bytes.iter().all(|byte| *byte > b' ')
+}
+
+// The caller that the bytes are.
+fn read_caller(alloc: Global, bytes: &[u8]) -> Result<Text, LineFault>
+    ensures { Reads (IsCallerText bytes.now) result }
+{
+    if !is_caller(bytes) {
+        return Err(LineFault::NotALine);
+    }
+    let Ok(caller) = str::from_utf8(bytes) else {
+        return Err(LineFault::NotALine);
+    };
+    Ok(Text::from_str(alloc, caller)?)
+}
+
+fn is_caller(bytes: &[u8]) -> bool
+    ensures { result ≡ is_caller bytes.now }
+{
+    let [first, rest @ ..] = bytes else {
+        return false;
+    };
+    first.is_ascii_lowercase() && rest.len() <= MAX_CALLER_TAIL && are_caller_bytes(rest)
+}
+
+// Whether each byte is one that may follow the first one of a caller.
+fn are_caller_bytes(bytes: &[u8]) -> bool
+    ensures { result ≡ list_all is_caller_byte bytes.now }
+{
+    bytes
+        .iter()
+        .all(|byte| matches!(byte, b'a'..=b'z' | b'0'..=b'9' | b'-'))
+}
+
+// The number that the bytes spell in decimal, with no leading zero.
+fn read_number(bytes: &[u8]) -> Result<u64, LineFault>
+    ensures { Reads (IsNumber bytes.now) result }
+{
+    // `parse` would take a plus and leading zeros.
+    if !begins_number(bytes) {
+        return Err(LineFault::NotALine);
+    }
+    let Ok(digits) = str::from_utf8(bytes) else {
+        return Err(LineFault::NotALine);
+    };
+    let Ok(number) = digits.parse::<u64>() else {
+        return Err(LineFault::NotALine);
+    };
+    Ok(number)
+}
+
+// Whether a digit stands first, which is no 0 where another byte follows.
+fn begins_number(bytes: &[u8]) -> bool
+    ensures { result ≡ begins_number bytes.now }
+{
+    match bytes {
+        [] => false,
+        [only] => only.is_ascii_digit(),
+        [first, ..] => matches!(first, b'1'..=b'9'),
+    }
+}
+
+// What stands before the first space, and what stands after it.
+fn cut(bytes: &[u8]) -> Result<(&[u8], &[u8]), LineFault>
+    ensures { MatchResult result (λ parts. IsCut bytes.now parts.0.now parts.1.now) (λ fault. (fault ≡ LineFault.NotALine) × IsTrue (is_spaceless bytes.now)) }
+{
+    let Some(place) = first_space(bytes) else {
+        return Err(LineFault::NotALine);
+    };
+    Ok((&bytes[..place], &bytes[place + 1..]))
+}
+
+// Where the first space stands.
+fn first_space(bytes: &[u8]) -> Option<usize>
+    ensures { result ≡ position (λ b. b == 32) bytes.now }
+{
+    bytes.iter().position(|byte| *byte == b' ')
+}
+
+#[cfg(test)]
+mod tests;

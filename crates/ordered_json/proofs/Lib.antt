@@ -1,0 +1,16 @@
+pub mod Keys
+pub mod Runs
+pub mod States
+pub mod Accept
+pub mod Numbers
+pub mod Strings
+pub mod Trees
+pub mod Texts
+pub mod Fronts
+pub mod Reached
+pub mod Spelled
+pub mod Fresh
+pub mod Values
+pub mod Judged
+pub mod Soundness
+pub mod Verdict

@@ -1,0 +1,205 @@
+-- What a text looks like up to the byte that the reader stands at.
+use Rattle.std.proofs.Common.{◌≡◌, [], ◌∷◌, ◌++◌, ℕ, suc, ◌+◌, ◌<◌, true, false, List, length, map, refl, ap, sym, ◌∙◌, subst, append_assoc}
+use Rattle.ordered_json.specs.declared.json.Member.{Member}
+use Rattle.ordered_json.specs.declared.json.OrderedJson.{OrderedJson}
+use Rattle.ordered_json.specs.declared.level.Level.{Level}
+use Rattle.ordered_json.specs.declared.level.Level.TheVariants as level
+use Rattle.ordered_json.specs.Words.{key_of}
+use Rattle.ordered_json.specs.Grammar.{is_blank, Char, AreChars, IsSpace, print_string, Tree, array, object, no_elements, element, no_members, member, print, lead, IsTree}
+use Rattle.ordered_json.specs.Meaning.{content, value_at, has_key, max_depth, IsTaken, HasValue}
+use Rattle.ordered_json.specs.Faults.{BeginsFaultless}
+use Rattle.ordered_json.proofs.States.{Ready}
+use Rattle.ordered_json.proofs.Fronts.{Item, comma_after, print_items, AreItems, item_values, close, print-close, are-close, taken-close, Entry, comma_past, print_entries, entry_keys, AreEntries, entry_values, close_members, keys-entries, print-close_members, are-close_members, taken-close_members}
+
+-- `text` is an open array's up to its last element; `outside` says what stands before its bracket
+pub record ListText (outside : List ℕ → Type 0) (depth p : ℕ) (items : List OrderedJson) (is : List Item) (text : List ℕ) : Type 0 where
+  pub outer : List ℕ
+  pub stands : outside outer
+  pub place : p ≡ length outer
+  pub room : depth < max_depth
+  pub are : AreItems (suc depth) is
+  pub values : items ≡ item_values (p + 1) is
+  pub printed : text ≡ outer ++ 91 ∷ print_items is
+
+-- an open object's, likewise
+pub record ObjectText (outside : List ℕ → Type 0) (depth p : ℕ) (members : List Member) (es : List Entry) (text : List ℕ) : Type 0 where
+  pub outer : List ℕ
+  pub stands : outside outer
+  pub place : p ≡ length outer
+  pub room : depth < max_depth
+  pub are : AreEntries (suc depth) es
+  pub values : members ≡ entry_values (p + 1) es
+  pub printed : text ≡ outer ++ 123 ∷ print_entries es
+
+-- an element is awaited
+pub record ListAwaits (outside : List ℕ → Type 0) (depth p : ℕ) (items : List OrderedJson) (text : List ℕ) : Type 0 where
+  pub is : List Item
+  pub front : List ℕ
+  pub inside : ListText outside depth p items is front
+  pub space : List ℕ
+  pub space' : List ℕ
+  pub white : IsSpace space
+  pub white' : IsSpace space'
+  pub printed : text ≡ front ++ lead space (comma_after is) space'
+
+-- a key is awaited
+pub record KeyAwaits (outside : List ℕ → Type 0) (depth p : ℕ) (members : List Member) (text : List ℕ) : Type 0 where
+  pub es : List Entry
+  pub front : List ℕ
+  pub inside : ObjectText outside depth p members es front
+  pub space : List ℕ
+  pub space' : List ℕ
+  pub white : IsSpace space
+  pub white' : IsSpace space'
+  pub printed : text ≡ front ++ lead space (comma_past es) space'
+
+-- a key is read, and white space
+pub record ColonAwaits (outside : List ℕ → Type 0) (depth p : ℕ) (members : List Member) (key : List ℕ) (key_at : ℕ) (text : List ℕ) : Type 0 where
+  pub before : List ℕ
+  pub awaited : KeyAwaits outside depth p members before
+  pub chars : List Char
+  pub gap : List ℕ
+  pub are : AreChars chars
+  pub fresh : has_key (content chars) (map key_of members) ≡ false
+  pub white : IsSpace gap
+  pub key_is : key ≡ content chars
+  pub place : key_at ≡ length before
+  pub printed : text ≡ before ++ (print_string chars ++ gap)
+
+-- the value of a key is awaited
+pub record MemberAwaits (outside : List ℕ → Type 0) (depth p : ℕ) (members : List Member) (key : List ℕ) (key_at : ℕ) (text : List ℕ) : Type 0 where
+  pub before : List ℕ
+  pub named : ColonAwaits outside depth p members key key_at before
+  pub gap' : List ℕ
+  pub white' : IsSpace gap'
+  pub printed : text ≡ before ++ 58 ∷ gap'
+
+-- a value is awaited inside these levels
+abbrev pub Awaits : List Level → List ℕ → Type 0
+Awaits [] text = IsSpace text
+Awaits (level.List p items ∷ ls) text = ListAwaits (Awaits ls) (length ls) p items text
+Awaits (level.Object p members ∷ ls) text = ⊥
+Awaits (level.Member p members key key_at ∷ ls) text = MemberAwaits (Awaits ls) (length ls) p members key key_at text
+
+-- ---- white space
+pub space-snoc : (s : List ℕ) (b : ℕ) → IsSpace s → is_blank b ≡ true → IsSpace (s ++ b ∷ [])
+space-snoc [] b h e = (e, tt)
+space-snoc (c ∷ s) b h e = (h.0, space-snoc s b h.1 e)
+
+-- one byte more at the end of the last of two and of three parts
+pub snoc-two : (a c : List ℕ) (b : ℕ) → (a ++ c) ++ b ∷ [] ≡ a ++ (c ++ b ∷ [])
+snoc-two a c b = append_assoc a c (b ∷ [])
+
+lead-snoc : (s comma s' : List ℕ) (b : ℕ) → lead s comma s' ++ b ∷ [] ≡ lead s comma (s' ++ b ∷ [])
+lead-snoc s comma s' b = append_assoc s (comma ++ s') (b ∷ []) ∙ ap (λ w. s ++ w) (append_assoc comma s' (b ∷ []))
+
+list_awaits-blank : {outside : List ℕ → Type 0} {depth p : ℕ} {items : List OrderedJson} (text : List ℕ) (b : ℕ) → is_blank b ≡ true → ListAwaits outside depth p items text → ListAwaits outside depth p items (text ++ b ∷ [])
+list_awaits-blank text b e a = record {
+  is = a.is;
+  front = a.front;
+  inside = a.inside;
+  space = a.space;
+  space' = a.space' ++ b ∷ [];
+  white = a.white;
+  white' = space-snoc a.space' b a.white' e;
+  printed = ap (λ w. w ++ b ∷ []) a.printed ∙ (snoc-two a.front (lead a.space (comma_after a.is) a.space') b ∙ ap (λ w. a.front ++ w) (lead-snoc a.space (comma_after a.is) a.space' b));
+}
+
+pub key_awaits-blank : {outside : List ℕ → Type 0} {depth p : ℕ} {members : List Member} (text : List ℕ) (b : ℕ) → is_blank b ≡ true → KeyAwaits outside depth p members text → KeyAwaits outside depth p members (text ++ b ∷ [])
+key_awaits-blank text b e a = record {
+  es = a.es;
+  front = a.front;
+  inside = a.inside;
+  space = a.space;
+  space' = a.space' ++ b ∷ [];
+  white = a.white;
+  white' = space-snoc a.space' b a.white' e;
+  printed = ap (λ w. w ++ b ∷ []) a.printed ∙ (snoc-two a.front (lead a.space (comma_past a.es) a.space') b ∙ ap (λ w. a.front ++ w) (lead-snoc a.space (comma_past a.es) a.space' b));
+}
+
+pub colon_awaits-blank : {outside : List ℕ → Type 0} {depth p : ℕ} {members : List Member} {key : List ℕ} {key_at : ℕ} (text : List ℕ) (b : ℕ) → is_blank b ≡ true → ColonAwaits outside depth p members key key_at text → ColonAwaits outside depth p members key key_at (text ++ b ∷ [])
+colon_awaits-blank text b e a = record {
+  before = a.before;
+  awaited = a.awaited;
+  chars = a.chars;
+  gap = a.gap ++ b ∷ [];
+  are = a.are;
+  fresh = a.fresh;
+  white = space-snoc a.gap b a.white e;
+  key_is = a.key_is;
+  place = a.place;
+  printed = ap (λ w. w ++ b ∷ []) a.printed ∙ (snoc-two a.before (print_string a.chars ++ a.gap) b ∙ ap (λ w. a.before ++ w) (append_assoc (print_string a.chars) a.gap (b ∷ [])));
+}
+
+member_awaits-blank : {outside : List ℕ → Type 0} {depth p : ℕ} {members : List Member} {key : List ℕ} {key_at : ℕ} (text : List ℕ) (b : ℕ) → is_blank b ≡ true → MemberAwaits outside depth p members key key_at text → MemberAwaits outside depth p members key key_at (text ++ b ∷ [])
+member_awaits-blank text b e a = record {
+  before = a.before;
+  named = a.named;
+  gap' = a.gap' ++ b ∷ [];
+  white' = space-snoc a.gap' b a.white' e;
+  printed = ap (λ w. w ++ b ∷ []) a.printed ∙ snoc-two a.before (58 ∷ a.gap') b;
+}
+
+pub awaits-blank : (ls : List Level) (text : List ℕ) (b : ℕ) → is_blank b ≡ true → Awaits ls text → Awaits ls (text ++ b ∷ [])
+awaits-blank [] text b e a = space-snoc text b a e
+awaits-blank (level.List p items ∷ ls) text b e a = list_awaits-blank text b e a
+awaits-blank (level.Object p members ∷ ls) text b e a = a
+awaits-blank (level.Member p members key key_at ∷ ls) text b e a = member_awaits-blank text b e a
+
+pub awaits-ready : (ls : List Level) (text : List ℕ) → Awaits ls text → Ready ls
+awaits-ready [] text a = tt
+awaits-ready (level.List p items ∷ ls) text a = awaits-ready ls a.inside.outer a.inside.stands
+awaits-ready (level.Object p members ∷ ls) text a = a
+awaits-ready (level.Member p members key key_at ∷ ls) text a = awaits-ready ls a.named.awaited.inside.outer a.named.awaited.inside.stands
+
+-- ---- what can follow: a value, and the brackets that close
+pub faultless-front : (front back : List ℕ) → BeginsFaultless (front ++ back) → BeginsFaultless front
+faultless-front front back h = (back ++ h.0, h.1, subst (λ w. HasValue w h.1) (append_assoc front back h.0) h.2)
+
+pub faultless-is : (a b : List ℕ) → a ≡ b → BeginsFaultless a → BeginsFaultless b
+faultless-is a b e h = subst BeginsFaultless e h
+
+-- an array that ends after one more element
+array_with : (depth p : ℕ) (items : List OrderedJson) (text : List ℕ) (outside : List ℕ → Type 0) (a : ListAwaits outside depth p items text) (t : Tree) → text ++ (print t ++ 93 ∷ []) ≡ a.inside.outer ++ print (array (close a.is (element a.space a.space' t (no_elements []))))
+array_with depth p items text outside a t =
+    let l = lead a.space (comma_after a.is) a.space' in
+    ap (λ w. w ++ (print t ++ 93 ∷ [])) (a.printed ∙ ap (λ w. w ++ l) a.inside.printed)
+    ∙ (append_assoc (a.inside.outer ++ 91 ∷ print_items a.is) l (print t ++ 93 ∷ [])
+    ∙ (append_assoc a.inside.outer (91 ∷ print_items a.is) (l ++ (print t ++ 93 ∷ []))
+    ∙ ap (λ w. a.inside.outer ++ 91 ∷ w) (sym (print-close a.is (element a.space a.space' t (no_elements []))))))
+
+-- an object that ends after the value of its last key
+object_with : (depth p : ℕ) (members : List Member) (key : List ℕ) (key_at : ℕ) (text : List ℕ) (outside : List ℕ → Type 0) (a : MemberAwaits outside depth p members key key_at text) (t : Tree) → text ++ (print t ++ 125 ∷ []) ≡ a.named.awaited.inside.outer ++ print (object (close_members a.named.awaited.es (member a.named.awaited.space a.named.awaited.space' a.named.chars a.named.gap a.gap' t (no_members []))))
+object_with depth p members key key_at text outside a t =
+    let n = a.named in
+    let k = a.named.awaited in
+    let l = lead k.space (comma_past k.es) k.space' in
+    let s = print_string n.chars in
+    let rest = print t ++ 125 ∷ [] in
+    ap (λ w. w ++ rest) (a.printed ∙ ap (λ w. w ++ 58 ∷ a.gap') (n.printed ∙ ap (λ w. w ++ (s ++ n.gap)) (k.printed ∙ ap (λ w. w ++ l) k.inside.printed)))
+    ∙ (append_assoc (((k.inside.outer ++ 123 ∷ print_entries k.es) ++ l) ++ (s ++ n.gap)) (58 ∷ a.gap') rest
+    ∙ (append_assoc ((k.inside.outer ++ 123 ∷ print_entries k.es) ++ l) (s ++ n.gap) (58 ∷ (a.gap' ++ rest))
+    ∙ (append_assoc (k.inside.outer ++ 123 ∷ print_entries k.es) l ((s ++ n.gap) ++ 58 ∷ (a.gap' ++ rest))
+    ∙ (append_assoc k.inside.outer (123 ∷ print_entries k.es) (l ++ ((s ++ n.gap) ++ 58 ∷ (a.gap' ++ rest)))
+    ∙ (ap (λ w. k.inside.outer ++ 123 ∷ (print_entries k.es ++ (l ++ w))) (append_assoc s n.gap (58 ∷ (a.gap' ++ rest)) ∙ ap (λ w. s ++ w) (sym (append_assoc n.gap (58 ∷ a.gap') rest)))
+    ∙ ap (λ w. k.inside.outer ++ 123 ∷ w) (sym (print-close_members k.es (member k.space k.space' n.chars n.gap a.gap' t (no_members [])))))))))
+
+pub plug : (ls : List Level) (text : List ℕ) → Awaits ls text → (t : Tree) → IsTree t → IsTaken (length ls) t → BeginsFaultless (text ++ print t)
+plug [] text a t h taken = ([], value_at (length text) t, (text, t, [], record { white_before = a; well_formed = h; white_after = tt; printed = append_assoc text (print t) [] }, taken, refl))
+plug (level.List p items ∷ ls) text a t h taken =
+    let whole = array (close a.is (element a.space a.space' t (no_elements []))) in
+    let bytes = append_assoc text (print t) (93 ∷ []) ∙ array_with (length ls) p items text (Awaits ls) a t in
+    faultless-front (text ++ print t) (93 ∷ []) (faultless-is (a.inside.outer ++ print whole) ((text ++ print t) ++ 93 ∷ []) (sym bytes)
+    (plug ls a.inside.outer a.inside.stands whole (are-close (suc (length ls)) a.is (element a.space a.space' t (no_elements [])) a.inside.are (a.white, a.white', h, tt))
+    (a.inside.room, taken-close (suc (length ls)) a.is (element a.space a.space' t (no_elements [])) a.inside.are (taken, tt))))
+plug (level.Object p members ∷ ls) text a t h taken = absurd a
+plug (level.Member p members key key_at ∷ ls) text a t h taken =
+    let n = a.named in
+    let k = a.named.awaited in
+    let last = member k.space k.space' n.chars n.gap a.gap' t (no_members []) in
+    let whole = object (close_members k.es last) in
+    let bytes = append_assoc text (print t) (125 ∷ []) ∙ object_with (length ls) p members key key_at text (Awaits ls) a t in
+    let fresh : has_key (content n.chars) (entry_keys k.es) ≡ false = subst (λ ks. has_key (content n.chars) ks ≡ false) (ap (map key_of) k.inside.values ∙ keys-entries (p + 1) k.es) n.fresh in
+    faultless-front (text ++ print t) (125 ∷ []) (faultless-is (k.inside.outer ++ print whole) ((text ++ print t) ++ 125 ∷ []) (sym bytes)
+    (plug ls k.inside.outer k.inside.stands whole (are-close_members (suc (length ls)) k.es last k.inside.are (k.white, k.white', n.are, n.white, a.white', h, tt))
+    (k.inside.room, taken-close_members (suc (length ls)) k.es last k.inside.are (fresh, taken, tt))))

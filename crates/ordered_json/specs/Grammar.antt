@@ -1,0 +1,182 @@
+-- The grammar of RFC 8259: a tree for each way to write a value, and the bytes that it prints.
+use Rattle.std.specs.Prelude.{◌≡◌, ◌⊎◌, ℕ, ◌+◌, ◌*◌, ◌≤◌, Bool, true, false, cond, ◌&&◌, ◌||◌, ◌==◌, nat_le, nat_lt, List, [], ◌∷◌, ◌++◌, ⊤, encode_utf8}
+use Rattle.std.specs.Char.{digit_value, is_digit, IsScalar}
+
+-- white space (section 2): space, tab, line feed, carriage return
+abbrev pub is_blank : ℕ → Bool
+is_blank b = ((b == 32) || (b == 9)) || ((b == 10) || (b == 13))
+
+abbrev pub IsSpace : List ℕ → Type 0
+IsSpace [] = ⊤
+IsSpace (b ∷ bs) = (is_blank b ≡ true) × IsSpace bs
+
+-- a number (section 6): an optional minus, whole digits with no leading zero, a fraction, an exponent
+abbrev pub is_decimal : ℕ → Bool
+is_decimal b = nat_le 48 b && nat_le b 57
+
+abbrev pub AreDigits : List ℕ → Type 0
+AreDigits [] = ⊤
+AreDigits (b ∷ bs) = (is_decimal b ≡ true) × AreDigits bs
+
+abbrev pub IsWhole : List ℕ → Type 0
+IsWhole [] = ⊥
+IsWhole (b ∷ bs) = ((b ≡ 48) × (bs ≡ [])) ⊎ ((b == 48 ≡ false) × AreDigits (b ∷ bs))
+
+abbrev pub AreSomeDigits : List ℕ → Type 0
+AreSomeDigits [] = ⊥
+AreSomeDigits (b ∷ bs) = AreDigits (b ∷ bs)
+
+abbrev pub IsFraction : List ℕ → Type 0
+IsFraction [] = ⊤
+IsFraction (b ∷ bs) = (b ≡ 46) × AreSomeDigits bs
+
+abbrev pub AreSignedDigits : List ℕ → Type 0
+AreSignedDigits [] = ⊥
+AreSignedDigits (b ∷ bs) = AreDigits (b ∷ bs) ⊎ (((b ≡ 43) ⊎ (b ≡ 45)) × AreSomeDigits bs)
+
+abbrev pub IsExponent : List ℕ → Type 0
+IsExponent [] = ⊤
+IsExponent (b ∷ bs) = ((b ≡ 101) ⊎ (b ≡ 69)) × AreSignedDigits bs
+
+-- the minus, if there is one, and the digits
+abbrev pub signed : Bool → List ℕ → List ℕ
+signed true digits = 45 ∷ digits
+signed false digits = digits
+
+-- four hexadecimal digits, which spell a code unit of UTF-16 (section 7)
+pub record CodeUnit : Type 0 where
+  pub first : ℕ
+  pub second : ℕ
+  pub third : ℕ
+  pub fourth : ℕ
+
+-- A character of a string (section 7): as it is, by a backslash and one byte, by its code unit, or by
+-- a surrogate pair.
+pub data Char : Type 0 where
+  plain : ℕ → Char
+  escaped : ℕ → Char
+  coded : CodeUnit → Char
+  paired : CodeUnit → CodeUnit → Char
+
+abbrev pub are_hex : CodeUnit → Bool
+are_hex u = (is_digit u.first 16 && is_digit u.second 16) && (is_digit u.third 16 && is_digit u.fourth 16)
+
+abbrev pub unit_value : CodeUnit → ℕ
+unit_value u = ((digit_value u.first * 16 + digit_value u.second) * 16 + digit_value u.third) * 16 + digit_value u.fourth
+
+abbrev pub is_high_surrogate : ℕ → Bool
+is_high_surrogate c = nat_le 0xD800 c && nat_lt c 0xDC00
+
+abbrev pub is_low_surrogate : ℕ → Bool
+is_low_surrogate c = nat_le 0xDC00 c && nat_lt c 0xE000
+
+-- the character that a backslash and this byte stand for, and 0 where they stand for none
+abbrev pub escape_value : ℕ → ℕ
+escape_value b =
+    cond ((b == 34) || ((b == 92) || (b == 47))) b
+    (cond (b == 98) 8 (cond (b == 102) 12 (cond (b == 110) 10 (cond (b == 114) 13 (cond (b == 116) 9 0)))))
+
+-- A high surrogate stands before a low one, and no other surrogate stands anywhere.
+abbrev pub IsChar : Char → Type 0
+IsChar (plain c) = IsScalar c × (32 ≤ c) × (c == 34 ≡ false) × (c == 92 ≡ false)
+IsChar (escaped b) = escape_value b == 0 ≡ false
+IsChar (coded u) = (are_hex u ≡ true) × (is_high_surrogate (unit_value u) ≡ false) × (is_low_surrogate (unit_value u) ≡ false)
+IsChar (paired u v) = (are_hex u ≡ true) × (are_hex v ≡ true) × (is_high_surrogate (unit_value u) ≡ true) × (is_low_surrogate (unit_value v) ≡ true)
+
+abbrev pub AreChars : List Char → Type 0
+AreChars [] = ⊤
+AreChars (c ∷ cs) = IsChar c × AreChars cs
+
+-- `\u` and the four digits
+abbrev pub print_unit : CodeUnit → List ℕ
+print_unit u = 92 ∷ 117 ∷ u.first ∷ u.second ∷ u.third ∷ u.fourth ∷ []
+
+abbrev pub print_char : Char → List ℕ
+print_char (plain c) = encode_utf8 c
+print_char (escaped b) = 92 ∷ b ∷ []
+print_char (coded u) = print_unit u
+print_char (paired u v) = print_unit u ++ print_unit v
+
+abbrev pub print_chars : List Char → List ℕ
+print_chars [] = []
+print_chars (c ∷ cs) = print_char c ++ print_chars cs
+
+-- a string between its quotes
+abbrev pub print_string : List Char → List ℕ
+print_string cs = 34 ∷ (print_chars cs ++ 34 ∷ [])
+
+-- A value (section 3). In an array and an object (sections 4 and 5) each element or member is written
+-- after white space, the comma of all but the first, and white space again.
+mutual
+  pub data Tree : Type 0 where
+    null : Tree
+    boolean : Bool → Tree
+    number : Bool → List ℕ → List ℕ → List ℕ → Tree
+    string : List Char → Tree
+    array : Elements → Tree
+    object : Members → Tree
+
+  pub data Elements : Type 0 where
+    no_elements : List ℕ → Elements
+    element : List ℕ → List ℕ → Tree → Elements → Elements
+
+  pub data Members : Type 0 where
+    no_members : List ℕ → Members
+    member : List ℕ → List ℕ → List Char → List ℕ → List ℕ → Tree → Members → Members
+
+-- what stands before an element or a member: its comma, if it has one, among white space
+abbrev pub lead : List ℕ → List ℕ → List ℕ → List ℕ
+lead space comma space' = space ++ (comma ++ space')
+
+-- what stands between a key and its value: the colon, among white space
+abbrev pub colon : List ℕ → List ℕ → List ℕ
+colon space space' = space ++ 58 ∷ space'
+
+abbrev mutual
+  pub print : Tree → List ℕ
+  print null = 110 ∷ 117 ∷ 108 ∷ 108 ∷ []
+  print (boolean true) = 116 ∷ 114 ∷ 117 ∷ 101 ∷ []
+  print (boolean false) = 102 ∷ 97 ∷ 108 ∷ 115 ∷ 101 ∷ []
+  print (number minus digits fraction exponent) = signed minus digits ++ (fraction ++ exponent)
+  print (string cs) = print_string cs
+  print (array es) = 91 ∷ print_elements [] es
+  print (object ms) = 123 ∷ print_members [] ms
+
+  -- with the closing bracket; the comma stands before the first element that is left
+  pub print_elements : List ℕ → Elements → List ℕ
+  print_elements comma (no_elements s) = s ++ 93 ∷ []
+  print_elements comma (element s s' t es) = lead s comma s' ++ (print t ++ print_elements (44 ∷ []) es)
+
+  pub print_members : List ℕ → Members → List ℕ
+  print_members comma (no_members s) = s ++ 125 ∷ []
+  print_members comma (member s s' k r r' t ms) =
+      lead s comma s' ++ (print_string k ++ (colon r r' ++ (print t ++ print_members (44 ∷ []) ms)))
+
+-- the parts are what the grammar asks for in their places
+abbrev mutual
+  pub IsTree : Tree → Type 0
+  IsTree null = ⊤
+  IsTree (boolean b) = ⊤
+  IsTree (number minus digits fraction exponent) = IsWhole digits × IsFraction fraction × IsExponent exponent
+  IsTree (string cs) = AreChars cs
+  IsTree (array es) = AreElements es
+  IsTree (object ms) = AreMembers ms
+
+  pub AreElements : Elements → Type 0
+  AreElements (no_elements s) = IsSpace s
+  AreElements (element s s' t es) = IsSpace s × IsSpace s' × IsTree t × AreElements es
+
+  pub AreMembers : Members → Type 0
+  AreMembers (no_members s) = IsSpace s
+  AreMembers (member s s' k r r' t ms) = IsSpace s × IsSpace s' × AreChars k × IsSpace r × IsSpace r' × IsTree t × AreMembers ms
+
+-- the text is this tree's, among white space
+pub record IsPrinted (text before : List ℕ) (tree : Tree) (after : List ℕ) : Type 0 where
+  pub white_before : IsSpace before
+  pub well_formed : IsTree tree
+  pub white_after : IsSpace after
+  pub printed : text ≡ before ++ (print tree ++ after)
+
+-- a JSON text, with whatever numbers, depth and keys
+abbrev pub IsJson : List ℕ → Type 0
+IsJson text = (before : List ℕ) × (tree : Tree) × (after : List ℕ) × IsPrinted text before tree after

@@ -1,0 +1,6 @@
+pub mod Faults
+pub mod Grammar
+pub mod Laws
+pub mod Meaning
+pub mod Steps
+pub mod Words

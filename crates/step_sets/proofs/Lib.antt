@@ -1,0 +1,12 @@
+pub mod EnteredLemmas
+pub mod EntryLemmas
+pub mod GoalLemmas
+pub mod HistoryLemmas
+pub mod LawLemmas
+pub mod ListLemmas
+pub mod MarkLemmas
+pub mod NextLemmas
+pub mod PreemptionLemmas
+pub mod SetLemmas
+pub mod TargetLemmas
+pub mod TreeLemmas

@@ -1,0 +1,12 @@
+pub mod Configuration
+pub mod Domains
+pub mod Entries
+pub mod Exits
+pub mod Goals
+pub mod History
+pub mod Kinds
+pub mod Laws
+pub mod Marks
+pub mod Preemption
+pub mod Sets
+pub mod Statechart

@@ -1,0 +1,30 @@
+//! The sets of one step of a statechart: which nodes a transition leaves and enters, where its targets
+//! lead, what history nodes remember, and which of the enabled transitions stay. Each call answers
+//! exactly the set of a definition in `specs/`, and `laws` says what follows from the definitions.
+#![tactic(auto)]
+
+mod entries;
+mod exits;
+mod history;
+mod laws;
+mod marks;
+mod nodes;
+mod preemption;
+mod targets;
+#[cfg(test)]
+mod tests;
+mod transition_domain;
+mod types;
+
+pub use entries::entry_set;
+pub use exits::exit_set;
+pub use history::record_history;
+pub use laws::{
+    first_configuration_is_legal, history_stays_fit, next_configuration_is_legal,
+    preemption_keeps_apart, records_hold_children_or_leaves,
+};
+pub use node_tree::NodeSet;
+pub use preemption::stays;
+pub use targets::goals;
+pub use transition_domain::domain;
+pub use types::{Domain, Flags};

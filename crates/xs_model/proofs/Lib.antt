@@ -1,0 +1,5 @@
+pub mod SizeLemmas
+pub mod CompactLemmas
+pub mod RisingLemmas
+pub mod SameLemmas
+pub mod PathLemmas

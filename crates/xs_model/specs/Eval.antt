@@ -1,0 +1,196 @@
+-- What an expression gives in an environment: the table of forms, one equation for each row.
+use Rattle.std.specs.Prelude.{◌≡◌, ◌≢◌, MatchResult, ℕ, ◌-◌, ◌^◌, Bool, true, false, not, ◌&&◌, List, [], ◌∷◌, ◌++◌, length, map, fold, Option, Some, None, Result, Ok, Err, if◌then◌else◌, nat_le, ℤ, pos, negsuc, ◌+ℤ◌, ◌-ℤ◌, ◌*ℤ◌, int_lt, int_le, int_div, int_rem}
+use Rattle.std.specs.Ordering.{nat_cmp, int_eq, is_lt, is_le}
+use Rattle.std.specs.Cmp.Lexicographic.{slice_cmp}
+use Rattle.std.specs.Fmt.{signed_decimal}
+use Rattle.xs_model.specs.declared.env.Env.{Env}
+use Rattle.xs_model.specs.declared.env.EvalFault.{EvalFault}
+use Rattle.xs_model.specs.declared.env.EvalFault.TheVariants.{Missing, Kind, Range, TooLarge, Memory}
+use Rattle.xs_model.specs.declared.expr.Expr.{Expr, fold-Expr}
+use Rattle.xs_model.specs.declared.expr.Expr.TheOpen.{Expr-F}
+use Rattle.xs_model.specs.declared.expr.Source.{Source}
+use Rattle.xs_model.specs.declared.expr.Source.TheVariants.{Context, Event, Params, Input}
+use Rattle.xs_model.specs.declared.expr.Arithmetic.{Arithmetic}
+use Rattle.xs_model.specs.declared.expr.Arithmetic.TheVariants.{Add, Sub, Mul}
+use Rattle.xs_model.specs.declared.expr.Division.{Division}
+use Rattle.xs_model.specs.declared.expr.Division.TheVariants.{Div, Rem}
+use Rattle.xs_model.specs.declared.expr.Comparison.{Comparison}
+use Rattle.xs_model.specs.declared.expr.Comparison.TheVariants.{Less, LessOrEqual}
+use Rattle.xs_model.specs.declared.expr.Connective.{Connective}
+use Rattle.xs_model.specs.declared.expr.Connective.TheVariants.{And, Or}
+use Rattle.xs_model.specs.declared.value.Value.{Value, out-Value}
+use Rattle.xs_model.specs.declared.value.Value.TheVariants as value
+use Rattle.xs_model.specs.declared.value.Value.TheOpen.{Value-F}
+use Rattle.xs_model.specs.Compact.{compact_text, nesting}
+use Rattle.xs_model.specs.Paths.{at_path}
+use Rattle.xs_model.specs.Rising.{put}
+use Rattle.xs_model.specs.Same.{same}
+
+-- a value or a fault
+abbrev pub Outcome : Type 0
+Outcome = Result Value EvalFault
+
+-- the operand's fault, or what is made of its value
+abbrev pub one : {X Y : Type 0} → Result X EvalFault → (X → Result Y EvalFault) → Result Y EvalFault
+one (Err fault) make = Err fault
+one (Ok x) make = make x
+
+-- both operands, the first one's fault before the second's
+abbrev pub pair_of : Outcome → Outcome → Result (Value × Value) EvalFault
+pair_of a b = one a (λ x. one b (λ y. Ok (x, y)))
+
+-- what is made of both operands
+abbrev pub both : Outcome → Outcome → (Value → Value → Outcome) → Outcome
+both a b make = one (pair_of a b) (λ p. make p.0 p.1)
+
+-- ---- limits
+
+-- at most 65,536 bytes of compact text, and at most 32 deep
+abbrev pub is_small : Value → Bool
+is_small x = nat_le (length (compact_text x)) 65536 && nat_le (nesting x) 32
+
+-- what an operator, a list or a map gives has to be small
+abbrev pub limited : Outcome → Outcome
+limited outcome = one outcome (λ x. if is_small x then Ok x else Err TooLarge)
+
+-- a number of 64 bits with sign
+abbrev pub in_range : ℤ → Outcome
+in_range n = if int_le (negsuc (2 ^ 63 - 1)) n && int_le n (pos (2 ^ 63 - 1)) then Ok (value.Int n) else Err Range
+
+-- ---- operators on values
+
+-- what stands at a path, or Missing
+abbrev pub found : Option Value → Outcome
+found None = Err Missing
+found (Some x) = Ok x
+
+-- what a path begins in
+abbrev pub begin : Source → Env → Value
+begin Context env = env.context.now
+begin Event env = env.event.now
+begin Params env = env.params.now
+begin Input env = env.input.now
+
+-- b where a finds nothing
+abbrev pub or_else : Outcome → Outcome → Outcome
+or_else (Err Missing) b = b
+or_else a _ = a
+
+abbrev pub arithmetic : Arithmetic → Value-F Value → Value-F Value → Outcome
+arithmetic Add (Value-F.Int m) (Value-F.Int n) = in_range (m +ℤ n)
+arithmetic Sub (Value-F.Int m) (Value-F.Int n) = in_range (m -ℤ n)
+arithmetic Mul (Value-F.Int m) (Value-F.Int n) = in_range (m *ℤ n)
+arithmetic _ _ _ = Err Kind
+
+-- towards zero; Range for a divisor of zero
+abbrev pub division : Division → Value-F Value → Value-F Value → Outcome
+division Div (Value-F.Int m) (Value-F.Int n) = if int_eq n (pos 0) then Err Range else in_range (int_div m n)
+division Rem (Value-F.Int m) (Value-F.Int n) = if int_eq n (pos 0) then Err Range else in_range (int_rem m n)
+division _ _ _ = Err Kind
+
+abbrev pub concat : Value-F Value → Value-F Value → Outcome
+concat (Value-F.Text s) (Value-F.Text t) = Ok (value.Text (s ++ t))
+concat _ _ = Err Kind
+
+abbrev pub decimal_text : Value-F Value → Outcome
+decimal_text (Value-F.Int n) = Ok (value.Text (signed_decimal n))
+decimal_text _ = Err Kind
+
+abbrev pub append : Value-F Value → Value → Outcome
+append (Value-F.List members) x = Ok (value.List (members ++ x ∷ []))
+append _ _ = Err Kind
+
+-- the members of a list or a map, or the bytes of a text
+abbrev pub len : Value-F Value → Outcome
+len (Value-F.List members) = Ok (value.Int (pos (length members)))
+len (Value-F.Map members) = Ok (value.Int (pos (length members)))
+len (Value-F.Text text) = Ok (value.Int (pos (length text)))
+len _ = Err Kind
+
+-- two numbers, or two texts by their bytes
+abbrev pub compare : Comparison → Value-F Value → Value-F Value → Outcome
+compare Less (Value-F.Int m) (Value-F.Int n) = Ok (value.Bool (int_lt m n))
+compare LessOrEqual (Value-F.Int m) (Value-F.Int n) = Ok (value.Bool (int_le m n))
+compare Less (Value-F.Text s) (Value-F.Text t) = Ok (value.Bool (is_lt (slice_cmp nat_cmp s t)))
+compare LessOrEqual (Value-F.Text s) (Value-F.Text t) = Ok (value.Bool (is_le (slice_cmp nat_cmp s t)))
+compare _ _ _ = Err Kind
+
+-- a truth value; another kind is Kind
+abbrev pub truth : Value-F Value → Result Bool EvalFault
+truth (Value-F.Bool b) = Ok b
+truth _ = Err Kind
+
+-- the truth value that an operand gives
+abbrev pub truth_of : Outcome → Result Bool EvalFault
+truth_of a = one a (λ x. truth (out-Value x))
+
+abbrev pub a_bool : Bool → Outcome
+a_bool b = Ok (value.Bool b)
+
+-- the first operand's truth value decides whether the second is asked
+abbrev pub connect : Connective → Bool → Outcome → Outcome
+connect And false b = a_bool false
+connect And true b = one (truth_of b) a_bool
+connect Or true b = a_bool true
+connect Or false b = one (truth_of b) a_bool
+
+-- ---- lists and maps
+
+-- each of the results, or the first fault
+abbrev pub collect : {X : Type 0} → List (Result X EvalFault) → Result (List X) EvalFault
+collect [] = Ok []
+collect (Err fault ∷ rest) = Err fault
+collect (Ok x ∷ rest) = one (collect rest) (λ xs. Ok (x ∷ xs))
+
+-- a key with what its part gives
+abbrev pub keyed : List ℕ × Outcome → Result (List ℕ × Value) EvalFault
+keyed part = one part.1 (λ x. Ok (part.0, x))
+
+-- the members put one after another
+abbrev pub sorted : List (List ℕ × Value) → List (List ℕ × Value)
+sorted members = fold (λ done member. put done member.0 member.1) [] members
+
+-- ---- the table
+
+-- what an expression gives, before the limits, whose parts give these outcomes
+abbrev pub row : Env → Expr-F Outcome → Outcome
+row env Expr-F.Null = Ok value.Null
+row env (Expr-F.Bool b) = Ok (value.Bool b)
+row env (Expr-F.Int n) = Ok (value.Int n)
+row env (Expr-F.Text text) = Ok (value.Text text)
+row env (Expr-F.List parts) = one (collect parts) (λ members. Ok (value.List members))
+row env (Expr-F.Map parts) = one (collect (map keyed parts)) (λ members. Ok (value.Map (sorted members)))
+row env (Expr-F.Path source path) = found (at_path path (begin source env))
+row env (Expr-F.OrElse a b) = or_else a b
+row env (Expr-F.Arithmetic op a b) = both a b (λ x y. arithmetic op (out-Value x) (out-Value y))
+row env (Expr-F.Division op a b) = both a b (λ x y. division op (out-Value x) (out-Value y))
+row env (Expr-F.Concat a b) = both a b (λ x y. concat (out-Value x) (out-Value y))
+row env (Expr-F.Decimal a) = one a (λ x. decimal_text (out-Value x))
+row env (Expr-F.Append a b) = both a b (λ x y. append (out-Value x) y)
+row env (Expr-F.Len a) = one a (λ x. len (out-Value x))
+row env (Expr-F.Equal a b) = both a b (λ x y. a_bool (same x y))
+row env (Expr-F.Compare op a b) = both a b (λ x y. compare op (out-Value x) (out-Value y))
+row env (Expr-F.Connect op a b) = one (truth_of a) (λ first. connect op first b)
+row env (Expr-F.Not a) = one (truth_of a) (λ b. a_bool (not b))
+row env (Expr-F.If c a b) = one (truth_of c) (λ yes. if yes then a else b)
+row env (Expr-F.Lit x) = Ok x
+
+-- a scalar has no limit of its own
+abbrev pub is_scalar : {X : Type 0} → Expr-F X → Bool
+is_scalar Expr-F.Null = true
+is_scalar (Expr-F.Bool b) = true
+is_scalar (Expr-F.Int n) = true
+is_scalar (Expr-F.Text text) = true
+is_scalar _ = false
+
+-- what an expression gives whose parts give these outcomes
+abbrev pub within_limits : Env → Expr-F Outcome → Outcome
+within_limits env layer = if is_scalar layer then row env layer else limited (row env layer)
+
+-- what an expression gives
+abbrev pub outcome : Env → Expr → Outcome
+outcome env = fold-Expr Outcome (within_limits env)
+
+-- the result is this outcome, unless there was no memory
+abbrev pub Gives : {X : Type 0} → Result X EvalFault → Result X EvalFault → Type 0
+Gives result expected = MatchResult result (λ x. expected ≡ Ok x) (λ fault. fault ≢ Memory → expected ≡ Err fault)

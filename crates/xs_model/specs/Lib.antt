@@ -1,0 +1,6 @@
+pub mod Rising
+pub mod Compact
+pub mod Same
+pub mod Paths
+pub mod Eval
+pub mod formers

@@ -1,0 +1,26 @@
+//! Values, their compact text, and the expressions that are evaluated to them.
+#![tactic(auto)]
+
+mod action;
+mod copies;
+mod env;
+mod equality;
+mod expr;
+mod fields;
+mod nesting;
+mod operators;
+mod paths;
+mod size;
+mod value;
+
+pub use action::{Action, ActionItem, ActionItems, Target};
+pub use copies::copy;
+pub use equality::same;
+pub use env::{Env, EvalFault};
+pub use expr::{Arithmetic, Comparison, Connective, Division, Expr, Exprs, Parts, Source};
+pub use fields::Entries;
+pub use nesting::depth;
+pub use paths::at_path;
+pub use size::{quoted_len, text_len};
+pub use value::{Fields, Value, Values};
+pub use xs_data::Text;
