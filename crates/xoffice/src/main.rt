@@ -2,10 +2,12 @@
 #![tactic(auto)]
 
 mod file_source;
+mod side_file;
 mod standard_station;
 mod tally;
 
 use crate::file_source::FileSource;
+use crate::side_file::SideFile;
 use crate::standard_station::StandardStation;
 use std::env;
 use std::io::{self, ErrorKind};
@@ -29,14 +31,29 @@ fn words<R: Env + AllocGlobal>(rt: &R) -> io::Result<Vec<RcStr>> {
     Ok(words)
 }
 
+/// The word at a place, or the empty one.
+fn word(words: &[RcStr], place: usize) -> &str {
+    words.get(place).map_or("", |word| word.as_str())
+}
+
+/// The status of a run on the words, the files and the standard streams of this process. It fails for want of memory.
+fn status(rt: &HostRuntime) -> io::Result<u8> {
+    let words = words(rt)?;
+    // `run DEFS JOURNAL`. Where the words are in no form, the run touches neither, so nothing is opened.
+    let definitions = word(&words, 1);
+    let journal = word(&words, 2);
+    let a = format!(in rt.alloc(); "{journal}.a")?;
+    let b = format!(in rt.alloc(); "{journal}.b")?;
+    let station = StandardStation::new(
+        rt.stdin(),
+        rt.stdout(),
+        SideFile::new(rt, a),
+        SideFile::new(rt, b),
+    );
+    let mut defs = FileSource::new(rt, definitions);
+    Ok(office_run::run(rt.alloc(), &words, &mut defs, station).status)
+}
+
 fn main(rt: HostRuntime) -> ExitCode {
-    let Ok(words) = words(&rt) else {
-        return ExitCode::from(NO_MEMORY);
-    };
-    // `run DEFS JOURNAL`. Where the words are in no form, the run reads no definitions, so nothing is opened.
-    let path = words.get(1).map_or("", |word| word.as_str());
-    let mut defs = FileSource::new(&rt, path);
-    let station = StandardStation::new(rt.stdin(), rt.stdout());
-    let ended = office_run::run(rt.alloc(), &words, &mut defs, station);
-    ExitCode::from(ended.status)
+    ExitCode::from(status(&rt).unwrap_or(NO_MEMORY))
 }
