@@ -79,7 +79,7 @@ member_at-some key place zero (m ∷ members) fits below is =
     rw here refl
 member_at-some key place (suc later) (m ∷ members) fits below is =
     let other : bytes_eq key (decimal place) ≡ false = false_from_ne_true _ (λ same.
-        let twice = decimal_injective (place + suc later) place below (omega (arith, fits)) (is ∙ (bytes_eq-Decides key (decimal place)).0 same) in omega (arith, twice)) in
+    let twice = decimal_injective (place + suc later) place below (omega (arith, fits)) (is ∙ (bytes_eq-Decides key (decimal place)).0 same) in omega (arith, twice)) in
     rw other (member_at-some key (suc place) later members (omega (arith, fits)) (omega (arith, below)) (ap decimal (let e : suc place + later ≡ place + suc later = omega arith in e) ∙ is))
 
 -- ---- keys between dots
@@ -117,8 +117,8 @@ is_dot c = c == 46
 pub cut_once : (text : List ℕ) (r : Option (Bor (List ℕ) × Bor (List ℕ))) (key later : Bor (List ℕ)) → IsSplitOnceResult 46 text r → r ≡ Some (key, later) → slice_split is_dot text ≡ key.now ∷ slice_split is_dot later.now
 cut_once text r key later result is =
     let cut : (position_or_len is_dot text < length text) × (key.now ≡ before_first is_dot text) × (later.now ≡ after_first is_dot text)
-      = subst (λ r. MatchOption r (position_or_len is_dot text ≡ length text) (λ x. (position_or_len is_dot text < length text) × (x.0.now ≡ before_first is_dot text) × (x.1.now ≡ after_first is_dot text))) is
-        (split_once_first 46 text r result (omega arith)) in
+    = subst (λ r. MatchOption r (position_or_len is_dot text ≡ length text) (λ x. (position_or_len is_dot text < length text) × (x.0.now ≡ before_first is_dot text) × (x.1.now ≡ after_first is_dot text))) is
+    (split_once_first 46 text r result (omega arith)) in
     rw (cut.1, cut.2) (split-some is_dot text cut.0)
 
 pub uncut : (text : List ℕ) (r : Option (Bor (List ℕ) × Bor (List ℕ))) → IsSplitOnceResult 46 text r → r ≡ None → slice_split is_dot text ≡ text ∷ []

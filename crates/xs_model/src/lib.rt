@@ -15,8 +15,8 @@ mod value;
 
 pub use action::{Action, ActionItem, ActionItems, Target};
 pub use copies::copy;
-pub use equality::same;
 pub use env::{Env, EvalFault};
+pub use equality::same;
 pub use expr::{Arithmetic, Comparison, Connective, Division, Expr, Exprs, Parts, Source};
 pub use fields::Entries;
 pub use nesting::depth;

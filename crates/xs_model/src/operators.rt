@@ -13,6 +13,7 @@ use std::alloc::{AllocError, Global};
 
 // Values of more bytes of compact text, or nested deeper, are too large to be made.
 const MAX_TEXT_LEN: u64 = 65_536;
+
 const MAX_DEPTH: u32 = 32;
 
 pub(crate) fn limited(answer: Result<Value, EvalFault>) -> Result<Value, EvalFault>
