@@ -1,12 +1,15 @@
 -- Keys as places in decimal, and paths as keys.
-use Rattle.std.proofs.Common.{unwrap_or, one-add, suc-add, bytes_eq, not, add-zero, ◌≡◌, ◌≢◌, ℕ, zero, suc, ◌+◌, ◌<◌, ◌≤◌, ◌^◌, ◌==◌, Bool, true, false, cond, List, [], ◌∷◌, length, get_or, take, drop, Option, Some, None, Result, Ok, Err, MatchOption, decimal, refl, sym, ap, ◌∙◌, subst, arith, rules}
+use Rattle.std.proofs.Common.{unwrap_or, Bor, option_and_then, bytes_eq, not, add-zero, ◌≡◌, ◌≢◌, ℕ, zero, suc, ◌+◌, ◌<◌, ◌≤◌, ◌^◌, ◌==◌, Bool, true, false, cond, List, [], ◌∷◌, length, get_or, take, drop, Option, Some, None, Result, Ok, Err, MatchOption, decimal, refl, sym, ap, ◌∙◌, subst, arith, rules}
 use Rattle.std.specs.List.{slice_split, onto_first, before_first, after_first, position_or_len, slice_get}
 use Rattle.std.proofs.lemmas.Bool.{false_from_ne_true}
 use Rattle.std.proofs.lemmas.Slice.Eq.{bytes_eq-Decides}
-use Rattle.xs_model.specs.Paths.{member_at, step}
+use Rattle.std.proofs.lemmas.Str.Pattern.{IsSplitOnceResult, split_once_first}
+use Rattle.xs_model.specs.Paths.{member_at, step, walk}
 use Rattle.xs_model.specs.declared.value.Value.{Value, the_lemmas}
 use Rattle.xs_model.specs.declared.value.Value.TheVariants as value
 use Rattle.std.specs.Result.{result_ok}
+use Rattle.std.proofs.Math.Numerals.{one-add}
+use Rattle.std.proofs.Math.Nat.{suc-add}
 use Rattle.std.specs.Str.Parse.{AllDigits, digits_value, ParsesUnsigned}
 use Rattle.std.proofs.lemmas.Fmt.{decimal_nonempty, first_decimal, digits_decimal, digits_value-decimal, decimal-digits_value, decimal_digit, decimal_injective}
 use Rattle.std.proofs.lemmas.Str.Parse.{IsNumeralModel, numerals_by_value, tells_digits, parse_plain, not_in_digits}
@@ -76,7 +79,7 @@ member_at-some key place zero (m ∷ members) fits below is =
     rw here refl
 member_at-some key place (suc later) (m ∷ members) fits below is =
     let other : bytes_eq key (decimal place) ≡ false = false_from_ne_true _ (λ same.
-        let twice = decimal_injective (place + suc later) place below (omega (arith, fits)) (is ∙ (bytes_eq-Decides key (decimal place)).0 same) in omega (arith, twice)) in
+    let twice = decimal_injective (place + suc later) place below (omega (arith, fits)) (is ∙ (bytes_eq-Decides key (decimal place)).0 same) in omega (arith, twice)) in
     rw other (member_at-some key (suc place) later members (omega (arith, fits)) (omega (arith, below)) (ap decimal (let e : suc place + later ≡ place + suc later = omega arith in e) ∙ is))
 
 -- ---- keys between dots
@@ -105,3 +108,33 @@ module _ (p : ℕ → Bool) where
 
 pub step-List : (key : List ℕ) (members : List Value) → step key (value.List members) ≡ member_at key 0 members
 step-List key members = search (rules, the_lemmas)
+
+-- ---- the keys of a path, one at a time
+
+abbrev is_dot : ℕ → Bool
+is_dot c = c == 46
+
+pub cut_once : (text : List ℕ) (r : Option (Bor (List ℕ) × Bor (List ℕ))) (key later : Bor (List ℕ)) → IsSplitOnceResult 46 text r → r ≡ Some (key, later) → slice_split is_dot text ≡ key.now ∷ slice_split is_dot later.now
+cut_once text r key later result is =
+    let cut : (position_or_len is_dot text < length text) × (key.now ≡ before_first is_dot text) × (later.now ≡ after_first is_dot text)
+    = subst (λ r. MatchOption r (position_or_len is_dot text ≡ length text) (λ x. (position_or_len is_dot text < length text) × (x.0.now ≡ before_first is_dot text) × (x.1.now ≡ after_first is_dot text))) is
+    (split_once_first 46 text r result (omega arith)) in
+    rw (cut.1, cut.2) (split-some is_dot text cut.0)
+
+pub uncut : (text : List ℕ) (r : Option (Bor (List ℕ) × Bor (List ℕ))) → IsSplitOnceResult 46 text r → r ≡ None → slice_split is_dot text ≡ text ∷ []
+uncut text r result is =
+    split-none is_dot text (subst (λ r. MatchOption r (position_or_len is_dot text ≡ length text) (λ x. (position_or_len is_dot text < length text) × (x.0.now ≡ before_first is_dot text) × (x.1.now ≡ after_first is_dot text))) is
+    (split_once_first 46 text r result (omega arith)))
+
+pub walk-missing : (key : List ℕ) (keys : List (List ℕ)) (v : Value) → None ≡ step key v → walk (key ∷ keys) v ≡ None
+walk-missing key keys v e = ap (option_and_then (walk keys)) (sym e)
+
+pub walk-found : (key : List ℕ) (keys : List (List ℕ)) (v w : Value) → Some w ≡ step key v → walk (key ∷ keys) v ≡ walk keys w
+walk-found key keys v w e = ap (option_and_then (walk keys)) (sym e)
+
+pub walk-last : (key : List ℕ) (v : Value) → walk (key ∷ []) v ≡ step key v
+walk-last key v = same (step key v)
+  where
+    same : (o : Option Value) → option_and_then (λ w. Some w) o ≡ o
+    same None = refl
+    same (Some w) = refl
