@@ -3,3 +3,4 @@ pub mod CompactLemmas
 pub mod RisingLemmas
 pub mod SameLemmas
 pub mod PathLemmas
+pub mod EvalLemmas

@@ -16,6 +16,10 @@ use Rattle.xs_model.specs.declared.expr.Division.{Division}
 use Rattle.xs_model.specs.declared.expr.Division.TheVariants.{Div, Rem}
 use Rattle.xs_model.specs.declared.expr.Comparison.{Comparison}
 use Rattle.xs_model.specs.declared.expr.Comparison.TheVariants.{Less, LessOrEqual}
+use Rattle.xs_model.specs.declared.expr.Unary.{Unary}
+use Rattle.xs_model.specs.declared.expr.Unary.TheVariants.{Decimal, Len, Not}
+use Rattle.xs_model.specs.declared.expr.Binary.{Binary}
+use Rattle.xs_model.specs.declared.expr.Binary.TheVariants as binary_op
 use Rattle.xs_model.specs.declared.expr.Connective.{Connective}
 use Rattle.xs_model.specs.declared.expr.Connective.TheVariants.{And, Or}
 use Rattle.xs_model.specs.declared.value.Value.{Value, out-Value}
@@ -127,12 +131,29 @@ truth_of a = one a (λ x. truth (out-Value x))
 abbrev pub a_bool : Bool → Outcome
 a_bool b = Ok (value.Bool b)
 
--- the first operand's truth value decides whether the second is asked
+-- whether the first operand's truth value is already that of the whole
+abbrev pub decides : Connective → Bool → Bool
+decides And first = not first
+decides Or first = first
+
+-- the second operand is asked only where the first one doesn't decide
 abbrev pub connect : Connective → Bool → Outcome → Outcome
-connect And false b = a_bool false
-connect And true b = one (truth_of b) a_bool
-connect Or true b = a_bool true
-connect Or false b = one (truth_of b) a_bool
+connect op first b = if decides op first then a_bool first else one (truth_of b) a_bool
+
+-- the operators of one operand, by its value
+abbrev pub unary : Unary → Value-F Value → Outcome
+unary Decimal x = decimal_text x
+unary Len x = len x
+unary Not x = one (truth x) (λ b. a_bool (not b))
+
+-- the operators of two operands, by their values
+abbrev pub binary : Binary → Value → Value → Outcome
+binary (binary_op.Arithmetic op) x y = arithmetic op (out-Value x) (out-Value y)
+binary (binary_op.Division op) x y = division op (out-Value x) (out-Value y)
+binary binary_op.Concat x y = concat (out-Value x) (out-Value y)
+binary binary_op.Append x y = append (out-Value x) y
+binary binary_op.Equal x y = a_bool (same x y)
+binary (binary_op.Compare op) x y = compare op (out-Value x) (out-Value y)
 
 -- ---- lists and maps
 
@@ -150,6 +171,14 @@ keyed part = one part.1 (λ x. Ok (part.0, x))
 abbrev pub sorted : List (List ℕ × Value) → List (List ℕ × Value)
 sorted members = fold (λ done member. put done member.0 member.1) [] members
 
+-- the list of what the parts give
+abbrev pub list_of : List Outcome → Outcome
+list_of parts = one (collect parts) (λ members. Ok (value.List members))
+
+-- the map of what the parts give
+abbrev pub map_of : List (List ℕ × Outcome) → Outcome
+map_of parts = one (collect (map keyed parts)) (λ members. Ok (value.Map (sorted members)))
+
 -- ---- the table
 
 -- what an expression gives, before the limits, whose parts give these outcomes
@@ -158,20 +187,13 @@ row env Expr-F.Null = Ok value.Null
 row env (Expr-F.Bool b) = Ok (value.Bool b)
 row env (Expr-F.Int n) = Ok (value.Int n)
 row env (Expr-F.Text text) = Ok (value.Text text)
-row env (Expr-F.List parts) = one (collect parts) (λ members. Ok (value.List members))
-row env (Expr-F.Map parts) = one (collect (map keyed parts)) (λ members. Ok (value.Map (sorted members)))
+row env (Expr-F.List parts) = list_of parts
+row env (Expr-F.Map parts) = map_of parts
 row env (Expr-F.Path source path) = found (at_path path (begin source env))
 row env (Expr-F.OrElse a b) = or_else a b
-row env (Expr-F.Arithmetic op a b) = both a b (λ x y. arithmetic op (out-Value x) (out-Value y))
-row env (Expr-F.Division op a b) = both a b (λ x y. division op (out-Value x) (out-Value y))
-row env (Expr-F.Concat a b) = both a b (λ x y. concat (out-Value x) (out-Value y))
-row env (Expr-F.Decimal a) = one a (λ x. decimal_text (out-Value x))
-row env (Expr-F.Append a b) = both a b (λ x y. append (out-Value x) y)
-row env (Expr-F.Len a) = one a (λ x. len (out-Value x))
-row env (Expr-F.Equal a b) = both a b (λ x y. a_bool (same x y))
-row env (Expr-F.Compare op a b) = both a b (λ x y. compare op (out-Value x) (out-Value y))
+row env (Expr-F.Unary op a) = one a (λ x. unary op (out-Value x))
+row env (Expr-F.Binary op a b) = both a b (λ x y. binary op x y)
 row env (Expr-F.Connect op a b) = one (truth_of a) (λ first. connect op first b)
-row env (Expr-F.Not a) = one (truth_of a) (λ b. a_bool (not b))
 row env (Expr-F.If c a b) = one (truth_of c) (λ yes. if yes then a else b)
 row env (Expr-F.Lit x) = Ok x
 

@@ -1,5 +1,7 @@
+ghost use Rattle.std.specs.Prelude.{◌≡◌};
+
 use crate::value::Value;
-use std::alloc::AllocError;
+use std::alloc::{AllocError, AllocFailed};
 
 /// What an expression reads.
 #[derive(Clone, Copy, Debug)]
@@ -31,7 +33,21 @@ pub enum EvalFault {
 }
 
 impl From<AllocError> for EvalFault {
+    ghost use Rattle.xs_model.specs.declared.env.EvalFault.TheVariants.{Memory};
+
+    ghost from_gives = { λ _ fault. fault ≡ Memory };
+
     fn from(_: AllocError) -> EvalFault {
+        EvalFault::Memory
+    }
+}
+
+impl<T: Drop> From<AllocFailed<T>> for EvalFault {
+    ghost use Rattle.xs_model.specs.declared.env.EvalFault.TheVariants.{Memory};
+
+    ghost from_gives = { λ _ fault. fault ≡ Memory };
+
+    fn from(_: AllocFailed<T>) -> EvalFault {
         EvalFault::Memory
     }
 }

@@ -2,8 +2,9 @@ use crate::value::Value;
 use sqlite_items::Boxed;
 use xs_data::{Items, Text};
 
-/// An expression: one variant for each form, with the form's parts as fields. What each gives is
-/// `outcome` of `specs/Eval.antt`.
+/// An expression: one variant for each form, with the form's parts as fields; the operators that
+/// evaluate all their operands first are the variants of `Unary` and `Binary`. What each form gives
+/// is `outcome` of `specs/Eval.antt`.
 #[derive(Debug, Drop)]
 pub enum Expr {
     /// A scalar, which gives itself.
@@ -19,26 +20,12 @@ pub enum Expr {
     Path(Source, Text),
     /// `{"$or_else":[a,b]}`: what `a` gives, or `b` where `a` finds nothing.
     OrElse(Boxed<Expr>, Boxed<Expr>),
-    /// `{"$add":[a,b]}` and the like.
-    Arithmetic(Arithmetic, Boxed<Expr>, Boxed<Expr>),
-    /// `{"$div":[a,b]}` and `{"$rem":[a,b]}`.
-    Division(Division, Boxed<Expr>, Boxed<Expr>),
-    /// `{"$concat":[a,b]}`: a text and then another.
-    Concat(Boxed<Expr>, Boxed<Expr>),
-    /// `{"$text":a}`: a number in decimal.
-    Decimal(Boxed<Expr>),
-    /// `{"$append":[list,v]}`: the list with a member more.
-    Append(Boxed<Expr>, Boxed<Expr>),
-    /// `{"$len":a}`: how many members a list or a map has, or bytes a text.
-    Len(Boxed<Expr>),
-    /// `{"$eq":[a,b]}`.
-    Equal(Boxed<Expr>, Boxed<Expr>),
-    /// `{"$lt":[a,b]}` and `{"$le":[a,b]}`, of two numbers, or of two texts by their bytes.
-    Compare(Comparison, Boxed<Expr>, Boxed<Expr>),
-    /// `{"$and":[a,b]}` and `{"$or":[a,b]}`: `b` is evaluated only if it decides.
+    /// An operator that takes the value of its one operand.
+    Unary(Unary, Boxed<Expr>),
+    /// An operator that takes the values of both its operands, evaluated from left to right.
+    Binary(Binary, Boxed<Expr>, Boxed<Expr>),
+    /// `{"$and":[a,b]}` and `{"$or":[a,b]}`: `b` is evaluated only if `a` doesn't decide.
     Connect(Connective, Boxed<Expr>, Boxed<Expr>),
-    /// `{"$not":a}`.
-    Not(Boxed<Expr>),
     /// `{"$if":[c,a,b]}`: of `a` and `b` only one is evaluated.
     If(Boxed<Expr>, Boxed<Expr>, Boxed<Expr>),
     /// `{"$lit":value}`: that value, whatever its keys are.
@@ -58,6 +45,34 @@ pub enum Source {
     Event,
     Params,
     Input,
+}
+
+/// The operators of one operand.
+#[derive(Clone, Copy, Debug)]
+pub enum Unary {
+    /// `{"$text":a}`: a number in decimal.
+    Decimal,
+    /// `{"$len":a}`: how many members a list or a map has, or bytes a text.
+    Len,
+    /// `{"$not":a}`.
+    Not,
+}
+
+/// The operators of two operands that need both.
+#[derive(Clone, Copy, Debug)]
+pub enum Binary {
+    /// `{"$add":[a,b]}` and the like.
+    Arithmetic(Arithmetic),
+    /// `{"$div":[a,b]}` and `{"$rem":[a,b]}`.
+    Division(Division),
+    /// `{"$concat":[a,b]}`: a text and then another.
+    Concat,
+    /// `{"$append":[list,v]}`: the list with a member more.
+    Append,
+    /// `{"$eq":[a,b]}`.
+    Equal,
+    /// `{"$lt":[a,b]}` and `{"$le":[a,b]}`, of two numbers, or of two texts by their bytes.
+    Compare(Comparison),
 }
 
 /// `$add`, `$sub` and `$mul`.

@@ -5,6 +5,7 @@ mod action;
 mod copies;
 mod env;
 mod equality;
+mod evaluation;
 mod expr;
 mod fields;
 mod nesting;
@@ -17,7 +18,10 @@ pub use action::{Action, ActionItem, ActionItems, Target};
 pub use copies::copy;
 pub use env::{Env, EvalFault};
 pub use equality::same;
-pub use expr::{Arithmetic, Comparison, Connective, Division, Expr, Exprs, Parts, Source};
+pub use evaluation::eval;
+pub use expr::{
+    Arithmetic, Binary, Comparison, Connective, Division, Expr, Exprs, Parts, Source, Unary,
+};
 pub use fields::Entries;
 pub use nesting::depth;
 pub use paths::at_path;

@@ -1,15 +1,18 @@
 //! What each operator makes of its operands' values.
 
-ghost use Rattle.std.specs.Prelude.{◌≡◌, IfOk, OnErr};
+ghost use Rattle.std.specs.Prelude.{◌≡◌};
 ghost use Rattle.xs_model.specs.declared.value.Value.{out-Value};
 ghost use Rattle.xs_model.specs.Eval as spec;
+ghost use Rattle.xs_model.specs.Eval.{Gives};
 
 use crate::env::{Env, EvalFault};
-use crate::expr::{Arithmetic, Comparison, Division, Source};
+use crate::equality::same;
+use crate::expr::{Arithmetic, Binary, Comparison, Connective, Division, Source, Unary};
 use crate::nesting::depth;
 use crate::size::text_len;
 use crate::value::Value;
-use std::alloc::{AllocError, Global};
+use std::alloc::Global;
+use xs_data::Text;
 
 // Values of more bytes of compact text, or nested deeper, are too large to be made.
 const MAX_TEXT_LEN: u64 = 65_536;
@@ -38,7 +41,30 @@ pub(crate) fn begin<'a>(source: Source, env: &Env<'a>) -> &'a Value
     }
 }
 
-pub(crate) fn arithmetic(op: Arithmetic, x: &Value, y: &Value) -> Result<Value, EvalFault>
+pub(crate) fn unary(alloc: Global, op: Unary, x: &Value) -> Result<Value, EvalFault>
+    ensures { Gives result (spec.unary op (out-Value x.now)) }
+{
+    match op {
+        Unary::Decimal => decimal(alloc, x),
+        Unary::Len => len(x),
+        Unary::Not => Ok(Value::Bool(!truth(x)?)),
+    }
+}
+
+pub(crate) fn binary(alloc: Global, op: Binary, x: Value, y: Value) -> Result<Value, EvalFault>
+    ensures { Gives result (spec.binary op x y) }
+{
+    match op {
+        Binary::Arithmetic(op) => arithmetic(op, &x, &y),
+        Binary::Division(op) => division(op, &x, &y),
+        Binary::Concat => concat(alloc, &x, &y),
+        Binary::Append => append(x, y),
+        Binary::Equal => Ok(Value::Bool(same(&x, &y))),
+        Binary::Compare(op) => compare(op, &x, &y),
+    }
+}
+
+fn arithmetic(op: Arithmetic, x: &Value, y: &Value) -> Result<Value, EvalFault>
     ensures { result ≡ spec.arithmetic op (out-Value x.now) (out-Value y.now) }
 {
     let (Value::Int(m), Value::Int(n)) = (x, y) else {
@@ -52,7 +78,7 @@ pub(crate) fn arithmetic(op: Arithmetic, x: &Value, y: &Value) -> Result<Value, 
     number.map(Value::Int).ok_or(EvalFault::Range)
 }
 
-pub(crate) fn division(op: Division, x: &Value, y: &Value) -> Result<Value, EvalFault>
+fn division(op: Division, x: &Value, y: &Value) -> Result<Value, EvalFault>
     ensures { result ≡ spec.division op (out-Value x.now) (out-Value y.now) }
 {
     let (Value::Int(m), Value::Int(n)) = (x, y) else {
@@ -68,7 +94,7 @@ pub(crate) fn division(op: Division, x: &Value, y: &Value) -> Result<Value, Eval
     }
 }
 
-pub(crate) fn compare(op: Comparison, x: &Value, y: &Value) -> Result<Value, EvalFault>
+fn compare(op: Comparison, x: &Value, y: &Value) -> Result<Value, EvalFault>
     ensures { result ≡ spec.compare op (out-Value x.now) (out-Value y.now) }
 {
     let order = match (x, y) {
@@ -82,7 +108,7 @@ pub(crate) fn compare(op: Comparison, x: &Value, y: &Value) -> Result<Value, Eva
     }))
 }
 
-pub(crate) fn len(x: &Value) -> Result<Value, EvalFault>
+fn len(x: &Value) -> Result<Value, EvalFault>
     ensures { result ≡ spec.len (out-Value x.now) }
 {
     let len = match x {
@@ -100,5 +126,47 @@ pub(crate) fn truth(x: &Value) -> Result<bool, EvalFault>
     match x {
         Value::Bool(truth) => Ok(*truth),
         _ => Err(EvalFault::Kind),
+    }
+}
+
+fn concat(alloc: Global, x: &Value, y: &Value) -> Result<Value, EvalFault>
+    ensures { Gives result (spec.concat (out-Value x.now) (out-Value y.now)) }
+{
+    let (Value::Text(s), Value::Text(t)) = (x, y) else {
+        return Err(EvalFault::Kind);
+    };
+    let mut text = String::from_str(alloc, s.as_str())?;
+    text.push_str(t.as_str())?;
+    Ok(Value::Text(Text::from_string(text)))
+}
+
+fn decimal(alloc: Global, x: &Value) -> Result<Value, EvalFault>
+    ensures { Gives result (spec.decimal_text (out-Value x.now)) }
+{
+    match x {
+        Value::Int(number) => Ok(Value::Text(Text::from_string(number.to_string(alloc)?))),
+        _ => Err(EvalFault::Kind),
+    }
+}
+
+fn append(x: Value, y: Value) -> Result<Value, EvalFault>
+    ensures { Gives result (spec.append (out-Value x) y) }
+{
+    match x {
+        Value::List(mut members) => match members.push(y) {
+            Ok(()) => Ok(Value::List(members)),
+            Err(_) => Err(EvalFault::Memory),
+        },
+        _ => Err(EvalFault::Kind),
+    }
+}
+
+// Whether the first operand's truth value is that of the whole.
+pub(crate) fn decides(op: Connective, first: bool) -> bool
+    ensures { result ≡ spec.decides op first }
+{
+    match op {
+        Connective::And => !first,
+        Connective::Or => first,
     }
 }
