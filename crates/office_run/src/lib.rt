@@ -9,6 +9,8 @@ mod program;
 mod replies;
 mod script;
 mod status;
+#[cfg(test)]
+mod tests;
 
 pub use command::{Command, WordsFault, words};
 pub use program::run;

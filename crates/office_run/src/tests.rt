@@ -1,0 +1,142 @@
+//! Whole scripts with what they print, and how a run ends where a call of the outside fails.
+
+use crate::run;
+use std::alloc::Global;
+use std::rc::RcStr;
+use std::test::Fail;
+use xs_outside::{Ended, MemorySource, MemoryStation};
+
+const TOGGLE: &[u8] =
+    b"{\"machines\":[{\"id\":\"toggle\",\"initial\":\"off\",\"states\":{\"off\":{\"on\":{\"FLIP\":\"on\"}},\"on\":{\"on\":{\"FLIP\":\"off\"}}}}],\"implementations\":{}}";
+
+const SCRIPT: &[u8] =
+    b"ann 1 start toggle - null\nturn\nvalue 1\nann 2 send 1 {\"type\":\"FLIP\"}\nturn\nturn\nvalue 1\nvalue 2\nflip\n";
+
+const ANSWERS: &[u8] =
+    b"ann 1 201 actor 1\nstep 1 1 active\nvalue 1 active \"off\" {}\nann 2 202 letter 2\nstep 1 2 active\nidle\nvalue 1 active \"on\" {}\n404 actor 2\n400 line\n";
+
+const USAGE: &[u8] = b"usage: xoffice check, run, show, audit, load or serve\n";
+
+const RUN: &[&str] = &["run", "office.json", "office"];
+
+// A run over the memory forms of the outside: its words, the bytes of its sources, and which calls of the station fail.
+#[derive(Clone, Copy, Drop)]
+struct Case<'a> {
+    words: &'a [&'a str],
+    definitions: &'a [u8],
+    input: &'a [u8],
+    fails: &'a [u64],
+}
+
+fn script(input: &[u8]) -> Case<'_> {
+    Case {
+        words: RUN,
+        definitions: TOGGLE,
+        input,
+        fails: &[],
+    }
+}
+
+fn failing(fails: &[u64]) -> Case<'_> {
+    Case {
+        words: RUN,
+        definitions: TOGGLE,
+        input: SCRIPT,
+        fails,
+    }
+}
+
+fn ended(alloc: Global, case: &Case) -> Result<Ended<MemoryStation>, Fail> {
+    let mut words = Vec::new(alloc);
+    for word in case.words {
+        words.push(RcStr::from_string(word.to_string(alloc)?)?)?;
+    }
+    let mut definitions = MemorySource::new(case.definitions.to_vec(alloc)?, Vec::new(alloc))?;
+    let input = case.input.to_vec(alloc)?;
+    let fails = case.fails.to_vec(alloc)?;
+    let station = MemoryStation::new(input, Vec::new(alloc), Vec::new(alloc), fails)?;
+    Ok(run(alloc, &words, &mut definitions, station))
+}
+
+#[test]
+fn scripts_get_their_answers(rt: HostRuntime) -> Result<(), Fail> {
+    let rows: [(&[u8], &[u8]); 5] = [
+        (SCRIPT, ANSWERS),
+        (b"", b""),
+        (b"\n", b"400 line\n"),
+        (b"turn", b"idle\n"),
+        (
+            b"turn\r\nvalue 01\nvalue 0\n",
+            b"400 line\n400 line\n404 actor 0\n",
+        ),
+    ];
+    for (input, answers) in &rows {
+        let ended = ended(rt.alloc(), &script(input))?;
+        assert_eq!(rt; ended.status, 0);
+        assert_eq!(rt; ended.station.output(), *answers);
+    }
+    Ok(())
+}
+
+#[test]
+fn words_and_definitions_are_refused(rt: HostRuntime) -> Result<(), Fail> {
+    let words: [&[&str]; 6] = [
+        &[],
+        &["run"],
+        &["run", "a"],
+        &["run", "-a", "b"],
+        &["run", "a", ""],
+        &["check", "a"],
+    ];
+    for words in &words {
+        let case = Case {
+            words,
+            ..script(SCRIPT)
+        };
+        let ended = ended(rt.alloc(), &case)?;
+        assert_eq!(rt; ended.status, 2);
+        assert_eq!(rt; ended.station.output(), USAGE);
+    }
+    let texts: [&[u8]; 3] = [b"", b"{}", b"[1"];
+    for definitions in &texts {
+        let case = Case {
+            definitions,
+            ..script(SCRIPT)
+        };
+        let ended = ended(rt.alloc(), &case)?;
+        assert_eq!(rt; ended.status, 3);
+        assert_eq!(rt; ended.station.output(), b"definitions\n".as_slice());
+    }
+    Ok(())
+}
+
+// The calls of the station over the script: one read, nine writes, and the read that finds the end.
+#[test]
+fn a_failing_call_ends_the_run(rt: HostRuntime) -> Result<(), Fail> {
+    for call in 1..=11 {
+        let ended = ended(rt.alloc(), &failing(&[call]))?;
+        let status = if call == 1 || call == 11 { 5 } else { 6 };
+        assert_eq!(rt; ended.status, status);
+        assert!(rt; ANSWERS.starts_with(ended.station.output()));
+        if call == 11 {
+            assert_eq!(rt; ended.station.output(), ANSWERS);
+        }
+    }
+    Ok(())
+}
+
+// Two lines of a whole piece each: the first is answered before the second is read.
+#[test]
+fn a_line_is_answered_before_the_next_is_read(rt: HostRuntime) -> Result<(), Fail> {
+    let mut input = vec![in rt.alloc(); b'x'; 131_072]?;
+    input[65_535] = b'\n';
+    input[131_071] = b'\n';
+    let case = Case {
+        fails: &[3],
+        ..script(input.as_slice())
+    };
+    let ended = ended(rt.alloc(), &case)?;
+    assert_eq!(rt; ended.status, 5);
+    assert_eq!(rt; ended.station.output(), b"400 line\n".as_slice());
+    Ok(())
+}
