@@ -66,7 +66,7 @@ Prints Usage words text input taken printed = (command_of words ≡ None) × (pr
 Prints Refused words text input taken printed = IsSome (command_of words) × IsRefused text × (printed ≡ refusal_line)
 Prints Done words text input taken printed = IsSome (command_of words) × PrintsAnswers Done text input taken printed
 Prints InputLong words text input taken printed = IsSome (command_of words) × PrintsAnswers InputLong text input taken printed
-Prints ReadFault words text input taken printed = IsSome (command_of words) × ((printed ≡ []) ⊎ PrintsAnswers ReadFault text input taken printed)
+Prints ReadFault words text input taken printed = IsSome (command_of words) × (((printed ≡ []) × (taken ≡ 0)) ⊎ PrintsAnswers ReadFault text input taken printed)
 Prints WriteFault words text input taken printed =
     ((command_of words ≡ None) × IsPart usage_line printed)
     ⊎ (IsSome (command_of words) × ((IsRefused text × IsPart refusal_line printed) ⊎ PrintsAnswers WriteFault text input taken printed))
