@@ -1,6 +1,6 @@
 -- What is known of the bytes of an input.
 use Rattle.std.proofs.Common.{◌≡◌, ℕ, zero, suc, Bool, true, false, ltb, ◌+◌, ◌-◌, ◌<◌, ◌≤◌, List, [], ◌∷◌, ◌++◌, length, take, drop, Option, None, Some, refl, sym, ap, ◌∙◌, inl, inr, arith, append_assoc, length-drop, length-append}
-use Rattle.std.specs.Io.KnownBytes.{prepend_known, IsAtEnd}
+use Rattle.std.specs.Io.KnownBytes.{prepend_known}
 use Rattle.std.specs.Prelude.{position}
 use Rattle.std.specs.List.{position_or_len}
 use Rattle.std.proofs.lemmas.Bool.Decides.{nat_tests}
@@ -8,7 +8,7 @@ use Rattle.office_run.specs.declared.line_buffer.LineBuffer.{LineBuffer}
 use Rattle.office_run.specs.Lines.{is_feed, has_feed}
 use Rattle.office_run.specs.declared.input.Next.TheVariants as next
 use Rattle.office_run.specs.declared.input.Fill.TheVariants as fill
-use Rattle.office_run.specs.Input.{Taken, Holds, Extends, IsReading, Moves, Fills, Gives, limit}
+use Rattle.office_run.specs.Input.{Taken, Holds, Extends, IsReading, Moves, Fills, Gives}
 use Rattle.std.proofs.lemmas.List.{drop-take, drop-drop, take-take, take_at, length-take, length-take-le}
 
 -- by both values of a test

@@ -1,5 +1,5 @@
 -- What a step of a conversation does to how far it has come, and what an end of it prints.
-use Rattle.std.proofs.Common.{◌≡◌, ◌⊎◌, ℕ, zero, suc, ◌+◌, ◌-◌, ◌<◌, ◌≤◌, Bool, true, false, List, [], ◌∷◌, ◌++◌, length, take, drop, Option, None, Some, refl, sym, ap, subst, ◌∙◌, inl, inr, arith, append_assoc, length-append}
+use Rattle.std.proofs.Common.{◌≡◌, ◌⊎◌, ℕ, ◌+◌, ◌-◌, ◌<◌, ◌≤◌, true, false, List, [], ◌∷◌, ◌++◌, length, take, Option, None, Some, refl, sym, ap, subst, ◌∙◌, inl, inr, arith, append_assoc, length-append}
 use Rattle.std.specs.Io.KnownBytes.{prepend_known, append_known, IsAtEnd}
 use Rattle.std.proofs.lemmas.Bool.{false≢true}
 use Rattle.std.proofs.lemmas.List.{append-nil}
@@ -10,12 +10,12 @@ use Rattle.office_run.specs.declared.script.Line.{Line}
 use Rattle.office_run.specs.declared.status.Status.{Status}
 use Rattle.office_run.specs.declared.status.Status.TheVariants as status
 use Rattle.office_run.specs.Lines.{is_feed, has_feed, with_first, ended_lines, rest_of, last_line, all_lines, with_feeds}
-use Rattle.office_run.specs.Input.{Taken, stream, limit, KeepsCount, UsesUp, IsNext, IsCutOff, IsTooMuch}
+use Rattle.office_run.specs.Input.{Taken, stream, limit, UsesUp, IsNext, IsTooMuch}
 use Rattle.office_run.specs.Script.{IsLine, AreRead}
 use Rattle.office_run.specs.Answers.{answer, after, answers, after_all}
 use Rattle.office_run.specs.Step.{Moment, Steps, TakesLine, long_line}
 use Rattle.office_run.specs.Progress.{AreFeedless, ArePlaced, IsUnderWay}
-use Rattle.office_run.specs.Run.{Answered, IsPart, IsCutShort, Tells}
+use Rattle.office_run.specs.Run.{IsPart, IsCutShort, Tells}
 use Rattle.office_run.proofs.InputLemmas.{by_test, prepend-both, prepend-nothing}
 
 -- ---- lines and their line feeds

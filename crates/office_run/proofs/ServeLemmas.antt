@@ -1,5 +1,5 @@
 -- What a conversation over accepted definitions prints, and what a text that is written leaves, as the program tells them.
-use Rattle.std.proofs.Common.{◌≡◌, ◌⊎◌, ℕ, ◌-◌, ◌++◌, Bool, true, false, List, length, take, Option, None, Some, IsSome, refl, sym, ap, ◌∙◌, inl, inr}
+use Rattle.std.proofs.Common.{◌≡◌, ◌⊎◌, ℕ, ◌-◌, ◌++◌, List, take, Option, Some, IsSome, refl, ap, ◌∙◌, inl, inr}
 use Rattle.std.specs.Io.KnownBytes.{append_known}
 use Rattle.office_core.specs.declared.flat.FlatMachine.{FlatMachine}
 use Rattle.office_run.specs.declared.status.Status.{Status}

@@ -2,10 +2,9 @@
 use Rattle.std.proofs.Common.{◌≡◌, ◌⊎◌, ℕ, List, take, Option, Some, subst, sym, ap, ◌∙◌, inl, inr}
 use Rattle.std.specs.Io.KnownBytes.{append_known}
 use Rattle.office_core.specs.declared.flat.FlatMachine.{FlatMachine}
-use Rattle.office_core.specs.Office.{Office}
 use Rattle.office_run.specs.declared.status.Status.{Status}
 use Rattle.office_run.specs.declared.status.Status.TheVariants as status
-use Rattle.office_run.specs.Input.{Taken, IsTooMuch}
+use Rattle.office_run.specs.Input.{IsTooMuch}
 use Rattle.office_run.specs.Step.{Moment, Steps, long_line}
 use Rattle.office_run.specs.Run.{WritesPart}
 

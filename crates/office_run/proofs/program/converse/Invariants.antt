@@ -1,4 +1,4 @@
-use Rattle.std.proofs.Common.{◌≡◌, ◌≤◌, ◌+◌, ◌-◌, [], false, length}
+use Rattle.std.proofs.Common.{◌≡◌, ◌≤◌, ◌+◌, ◌-◌, [], false}
 use Rattle.office_run.specs.Input.{limit}
 use Rattle.office_run.specs.Step.{Moment}
 use Rattle.office_run.specs.Progress.{IsUnderWay}

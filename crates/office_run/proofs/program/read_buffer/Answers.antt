@@ -1,6 +1,5 @@
 use Rattle.std.proofs.Common.{◌<◌, List, ℕ, subst, sym, ◌∙◌, arith}
 use Rattle.std.proofs.lemmas.Bool.{false≢true}
-use Rattle.office_run.specs.declared.script.Line.{Line}
 use Rattle.office_run.specs.Input.{Holds}
 use Rattle.office_run.specs.Script.{IsLine}
 use Rattle.office_run.proofs.LineLemmas.{long-no_form, holds-short}

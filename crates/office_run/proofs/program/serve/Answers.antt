@@ -1,7 +1,5 @@
-use Rattle.std.proofs.Common.{◌≡◌, ℕ, List, true, Some, IsSome, map, subst, sym, ◌∙◌}
-use Rattle.std.specs.Rc.{rc_str_bytes}
+use Rattle.std.proofs.Common.{◌≡◌, ℕ, List, Some, subst, sym, ◌∙◌}
 use Rattle.office_core.specs.declared.flat.FlatMachine.{FlatMachine}
-use Rattle.office_run.specs.Words.{command_of}
 use Rattle.office_run.specs.Definitions.{IsAccepted}
 use Rattle.office_run.proofs.ServeLemmas.{serves-answers, serves-refusal}
 use Rattle.office_run.proofs.program.serve.Goals as goal

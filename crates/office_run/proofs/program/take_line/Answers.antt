@@ -1,4 +1,4 @@
-use Rattle.std.proofs.Common.{◌≡◌, ℕ, List, Option, take, subst, sym, ap, ◌∙◌, inl, arith}
+use Rattle.std.proofs.Common.{ℕ, List, Option, take, subst, sym, ap, ◌∙◌, inl, arith}
 use Rattle.std.specs.Io.KnownBytes.{append_known}
 use Rattle.office_run.specs.Input.{IsNext}
 use Rattle.office_run.proofs.StepLemmas.{steps-too_much}

@@ -1,5 +1,5 @@
 use Rattle.std.proofs.Common.{refl, sym, ap, ◌∙◌, inr, arith}
-use Rattle.office_run.proofs.InputLemmas.{read-on, read-piece, gives-fed, gives-last, gives-end, gives-too_much, gives-failed}
+use Rattle.office_run.proofs.InputLemmas.{read-on, read-piece, gives-fed, gives-last, gives-too_much, gives-failed}
 use Rattle.office_run.proofs.input.Input.next_line.Goals as goal
 
 pub returns-then-self-clause-gives : goal.returns-then-self-clause-gives

@@ -1,5 +1,5 @@
-use Rattle.std.proofs.Common.{◌≡◌, ◌≤◌, ◌+◌, ◌-◌, ℕ, List, length}
-use Rattle.office_run.specs.Input.{IsReading, Taken, limit}
+use Rattle.std.proofs.Common.{◌≡◌, ◌≤◌, ◌+◌, ◌-◌, length}
+use Rattle.office_run.specs.Input.{IsReading, limit}
 use Rattle.office_run.proofs.input.Input.next_line.Given as goal
 
 abbrev pub invariant-pieces : goal.invariant-pieces
