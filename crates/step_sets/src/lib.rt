@@ -11,8 +11,6 @@ mod marks;
 mod nodes;
 mod preemption;
 mod targets;
-#[cfg(test)]
-mod tests;
 mod transition_domain;
 mod types;
 
