@@ -1,5 +1,7 @@
 -- Words over a value, so that a definition elsewhere can take a value apart without its storage.
 use Rattle.std.specs.Prelude.{ℕ, List, map, Option, Some, None}
+use Rattle.ordered_json.specs.declared.fault.JsonFault.{JsonFault}
+use Rattle.ordered_json.specs.declared.fault.JsonFault.TheVariants.{Syntax, DoubleKey, Fraction, Range, TooDeep, TooLong, Memory}
 use Rattle.ordered_json.specs.declared.json.Member.{Member, out-Member, roll-Member}
 use Rattle.ordered_json.specs.declared.json.OrderedJson.{OrderedJson, OrderedJson-F, out-OrderedJson}
 
@@ -62,3 +64,13 @@ member_of key place value = roll-Member (record { key = key; key_place = place; 
 -- the key of a member
 abbrev pub key_of : Member → List ℕ
 key_of m = (out-Member m).key
+
+-- where a fault stands; want of memory has no place and counts as 0
+abbrev pub fault_place : JsonFault → ℕ
+fault_place (Syntax place) = place
+fault_place (DoubleKey place) = place
+fault_place (Fraction place) = place
+fault_place (Range place) = place
+fault_place (TooDeep place) = place
+fault_place TooLong = 1048576
+fault_place Memory = 0

@@ -1,5 +1,6 @@
 ghost use Rattle.std.specs.Prelude.{◌≡◌};
 ghost use Rattle.ordered_json.specs.declared.fault.JsonFault.TheVariants.{Memory};
+ghost use Rattle.ordered_json.specs.Words.{fault_place};
 
 use std::alloc::AllocError;
 use thiserror::Error;
@@ -34,7 +35,9 @@ pub enum JsonFault {
 
 impl JsonFault {
     /// Where the fault stands: `TooLong` at 1048576, `Memory` at 0.
-    pub fn place(self) -> usize {
+    pub fn place(self) -> usize
+        ensures { result ≡ fault_place self }
+    {
         match self {
             JsonFault::Syntax(place)
             | JsonFault::DoubleKey(place)

@@ -1,3 +1,6 @@
+ghost use Rattle.std.specs.Prelude.{◌≡◌};
+ghost use Rattle.ordered_json.specs.Words.{place_of};
+
 use xs_data::{Items, Text};
 
 /// A JSON value with the place of each of its parts: the offset, in bytes from 0, of its first byte
@@ -50,7 +53,9 @@ pub struct Member {
 
 impl OrderedJson {
     /// Where the value begins: the offset, in bytes from 0, of its first byte.
-    pub fn place(&self) -> usize {
+    pub fn place(&self) -> usize
+        ensures { result ≡ place_of self.now }
+    {
         match self {
             OrderedJson::Null { place }
             | OrderedJson::Bool { place, .. }

@@ -64,7 +64,23 @@ pub struct Unit {
     pub fourth: u8,
 }
 
-/// How far a character of a string was read.
+impl Unit {
+    ghost use Rattle.ordered_json.specs.Steps.{hex_unit};
+
+    /// The digits in their order.
+    pub fn new(first: u8, second: u8, third: u8, fourth: u8) -> Unit
+        ensures { result ≡ hex_unit first second third fourth }
+    {
+        Unit {
+            first,
+            second,
+            third,
+            fourth,
+        }
+    }
+}
+
+/// How far a character of a string was read, with the bytes of it that are still needed.
 #[derive(Clone, Copy, Debug)]
 pub enum Spelling {
     /// Between two characters.
@@ -73,58 +89,22 @@ pub enum Spelling {
     Backslash,
     /// After `\u` and up to three digits.
     Hex0,
-    Hex1 {
-        first: u8,
-    },
-    Hex2 {
-        first: u8,
-        second: u8,
-    },
-    Hex3 {
-        first: u8,
-        second: u8,
-        third: u8,
-    },
+    Hex1(u8),
+    Hex2(u8, u8),
+    Hex3(u8, u8, u8),
     /// After the escape of a high surrogate.
-    High {
-        high: Unit,
-    },
+    High(Unit),
     /// After the backslash that follows it.
-    HighBackslash {
-        high: Unit,
-    },
+    HighBackslash(Unit),
     /// After `\u` that follows it, and up to three digits.
-    Low0 {
-        high: Unit,
-    },
-    Low1 {
-        high: Unit,
-        first: u8,
-    },
-    Low2 {
-        high: Unit,
-        first: u8,
-        second: u8,
-    },
-    Low3 {
-        high: Unit,
-        first: u8,
-        second: u8,
-        third: u8,
-    },
+    Low0(Unit),
+    Low1(Unit, u8),
+    Low2(Unit, u8, u8),
+    Low3(Unit, u8, u8, u8),
     /// After one, two or three bytes of a character that takes more in UTF-8.
-    Lead1 {
-        first: u8,
-    },
-    Lead2 {
-        first: u8,
-        second: u8,
-    },
-    Lead3 {
-        first: u8,
-        second: u8,
-        third: u8,
-    },
+    Lead1(u8),
+    Lead2(u8, u8),
+    Lead3(u8, u8, u8),
 }
 
 impl Word {

@@ -39,13 +39,6 @@ impl Reader {
         }
     }
 
-    /// Goes on in another mode.
-    fn go(&mut self, mode: Mode)
-        ensures { steps.go mode self.old ≡ Ok self.new }
-    {
-        self.mode = mode;
-    }
-
     /// A value is read, which stands before `place`: it goes to the innermost level.
     #[tactic(auto, unfolding(crate::specs::Steps::complete))]
     fn complete(&mut self, alloc: Global, place: usize, json: OrderedJson) -> Result<(), JsonFault>
@@ -175,6 +168,23 @@ impl Reader {
         } else {
             self.mode = scalar_mode(place, byte)?;
             Ok(())
+        }
+    }
+
+    /// The first byte of a key.
+    fn begin_key(&mut self, place: usize, byte: u8) -> Result<(), JsonFault>
+        ensures ok { OnOk result (steps.begin_key place byte self.old ≡ Ok self.new) }
+        ensures err { IfErr result (λ fault. fault ≢ JsonFault.Memory → steps.begin_key place byte self.old ≡ Err fault) }
+    {
+        if byte == b'"' {
+            self.mode = Mode::Text {
+                place,
+                is_key: true,
+                at: Spelling::Between,
+            };
+            Ok(())
+        } else {
+            Err(JsonFault::Syntax(place))
         }
     }
 
@@ -486,23 +496,6 @@ impl Reader {
             content: _,
         } = self;
         root.ok_or(JsonFault::Syntax(len))
-    }
-
-    /// The first byte of a key.
-    fn begin_key(&mut self, place: usize, byte: u8) -> Result<(), JsonFault>
-        ensures ok { OnOk result (steps.begin_key place byte self.old ≡ Ok self.new) }
-        ensures err { IfErr result (λ fault. fault ≢ JsonFault.Memory → steps.begin_key place byte self.old ≡ Err fault) }
-    {
-        if byte == b'"' {
-            self.mode = Mode::Text {
-                place,
-                is_key: true,
-                at: Spelling::Between,
-            };
-            Ok(())
-        } else {
-            Err(JsonFault::Syntax(place))
-        }
     }
 }
 

@@ -1,7 +1,8 @@
-ghost use Rattle.std.specs.Prelude.{◌≡◌, ◌≤◌, ◌<◌, ◌^◌};
+ghost use Rattle.std.specs.Prelude.{◌≡◌, ◌≤◌, ◌<◌, ◌^◌, ◌&&◌, cond, nat_le};
 ghost use Rattle.std.specs.Char.{digit_value, is_digit};
 ghost use Rattle.ordered_json.specs.Grammar as grammar;
 ghost use Rattle.ordered_json.specs.Steps as steps;
+ghost use Rattle.ordered_json.specs.declared.mode.Spelled.TheVariants as spelled;
 
 use crate::byte::escape_value;
 use crate::mode::{Spelled, Spelling, Unit};
@@ -13,72 +14,39 @@ pub fn spell(at: Spelling, byte: u8) -> Spelled
     match at {
         Spelling::Between => spell_first(byte),
         Spelling::Backslash => spell_escape(byte),
-        Spelling::Hex0 if is_hex(byte) => Spelled::More(Spelling::Hex1 { first: byte }),
-        Spelling::Hex1 { first } if is_no_low(first, byte) => Spelled::More(Spelling::Hex2 {
-            first,
-            second: byte,
-        }),
-        Spelling::Hex2 { first, second } if is_hex(byte) => Spelled::More(Spelling::Hex3 {
-            first,
-            second,
-            third: byte,
-        }),
-        Spelling::Hex3 {
-            first,
-            second,
-            third,
-        } if is_hex(byte) => unit_end(Unit {
-            first,
-            second,
-            third,
-            fourth: byte,
-        }),
-        Spelling::High { high } if byte == b'\\' => Spelled::More(Spelling::HighBackslash { high }),
-        Spelling::HighBackslash { high } if byte == b'u' => Spelled::More(Spelling::Low0 { high }),
-        Spelling::Low0 { high } if digit_value(byte) == 13 => Spelled::More(Spelling::Low1 {
-            high,
-            first: byte,
-        }),
-        Spelling::Low1 { high, first } if is_hex(byte) && digit_value(byte) >= 12 => Spelled::More(
-            Spelling::Low2 {
-                high,
-                first,
-                second: byte,
-            },
-        ),
-        Spelling::Low2 {
-            high,
-            first,
-            second,
-        } if is_hex(byte) => Spelled::More(Spelling::Low3 {
-            high,
-            first,
-            second,
-            third: byte,
-        }),
-        Spelling::Low3 {
-            high,
-            first,
-            second,
-            third,
-        } if is_hex(byte) => pair_end(
-            high,
-            Unit {
-                first,
-                second,
-                third,
-                fourth: byte,
-            },
-        ),
-        Spelling::Lead1 { first } if is_second(first, byte) => spell_second(first, byte),
-        Spelling::Lead2 { first, second } if is_tail(byte) => spell_third(first, second, byte),
-        Spelling::Lead3 {
-            first,
-            second,
-            third,
-        } if is_tail(byte) => char_of(four_bytes(first, second, third, byte)),
+        Spelling::Hex0 => more_if(is_hex(byte), Spelling::Hex1(byte)),
+        Spelling::Hex1(a) => more_if(is_no_low(a, byte), Spelling::Hex2(a, byte)),
+        Spelling::Hex2(a, b) => more_if(is_hex(byte), Spelling::Hex3(a, b, byte)),
+        Spelling::Hex3(a, b, c) if is_hex(byte) => unit_end(Unit::new(a, b, c, byte)),
+        Spelling::High(high) => more_if(byte == b'\\', Spelling::HighBackslash(high)),
+        Spelling::HighBackslash(high) => more_if(byte == b'u', Spelling::Low0(high)),
+        Spelling::Low0(high) => more_if(digit_value(byte) == 13, Spelling::Low1(high, byte)),
+        Spelling::Low1(high, a) => more_if(is_low_second(byte), Spelling::Low2(high, a, byte)),
+        Spelling::Low2(high, a, b) => more_if(is_hex(byte), Spelling::Low3(high, a, b, byte)),
+        Spelling::Low3(high, a, b, c) if is_hex(byte) => pair_end(high, Unit::new(a, b, c, byte)),
+        Spelling::Lead1(first) if is_second(first, byte) => spell_second(first, byte),
+        Spelling::Lead2(first, second) if is_tail(byte) => spell_third(first, second, byte),
+        Spelling::Lead3(a, b, c) if is_tail(byte) => char_of(four_bytes(a, b, c, byte)),
         _ => Spelled::Bad,
     }
+}
+
+/// The character goes on, if the byte may stand there.
+fn more_if(may_stand: bool, next: Spelling) -> Spelled
+    ensures { result ≡ cond may_stand (spelled.More next) spelled.Bad }
+{
+    if may_stand {
+        Spelled::More(next)
+    } else {
+        Spelled::Bad
+    }
+}
+
+/// Whether the byte is the second digit of a low surrogate's code unit.
+fn is_low_second(byte: u8) -> bool
+    ensures { result ≡ is_digit byte 16 && nat_le 12 (digit_value byte) }
+{
+    is_hex(byte) && digit_value(byte) >= 12
 }
 
 /// The first byte of a character, or the closing quote.
@@ -90,7 +58,7 @@ fn spell_first(byte: u8) -> Spelled
         b'\\' => Spelled::More(Spelling::Backslash),
         0..32 => Spelled::Bad,
         32..128 => Spelled::Char(byte as char),
-        0xC2..=0xF4 => Spelled::More(Spelling::Lead1 { first: byte }),
+        0xC2..=0xF4 => Spelled::More(Spelling::Lead1(byte)),
         _ => Spelled::Bad,
     }
 }
@@ -115,7 +83,7 @@ fn spell_second(first: u8, second: u8) -> Spelled
     if first < 0xE0 {
         char_of(u32::from(first % 32) * 64 + u32::from(second % 64))
     } else {
-        Spelled::More(Spelling::Lead2 { first, second })
+        Spelled::More(Spelling::Lead2(first, second))
     }
 }
 
@@ -126,11 +94,7 @@ fn spell_third(first: u8, second: u8, third: u8) -> Spelled
     if first < 0xF0 {
         char_of((u32::from(first % 16) * 64 + u32::from(second % 64)) * 64 + u32::from(third % 64))
     } else {
-        Spelled::More(Spelling::Lead3 {
-            first,
-            second,
-            third,
-        })
+        Spelled::More(Spelling::Lead3(first, second, third))
     }
 }
 
@@ -218,7 +182,7 @@ fn unit_end(unit: Unit) -> Spelled
 {
     let code = hex_value(unit);
     if is_high_surrogate(code) {
-        Spelled::More(Spelling::High { high: unit })
+        Spelled::More(Spelling::High(unit))
     } else {
         char_of(code)
     }

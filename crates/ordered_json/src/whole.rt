@@ -6,7 +6,6 @@ use crate::{JsonFault, OrderedJson};
 use std::alloc::Global;
 
 /// Reads a whole text, of any length.
-
 pub fn read_whole(alloc: Global, text: &[u8]) -> Result<OrderedJson, JsonFault>
     ensures ok { IfOk result (λ json. steps.answer text.now ≡ Ok json) }
     ensures err { IfErr result (λ fault. fault ≢ JsonFault.Memory → steps.answer text.now ≡ Err fault) }
