@@ -146,3 +146,33 @@ fn limits_depth_and_length(rt: HostRuntime) -> Result<(), Fail> {
     }
     Ok(())
 }
+
+#[test]
+fn faults_are_printed_with_their_places(rt: HostRuntime) -> Result<(), Fail> {
+    let rows: [(JsonFault, &str); 7] = [
+        (JsonFault::Syntax(13), "no JSON text goes on so at byte 13"),
+        (
+            JsonFault::DoubleKey(7),
+            "the key at byte 7 comes twice in its object",
+        ),
+        (
+            JsonFault::Fraction(1),
+            "the number at byte 1 has a fraction or an exponent",
+        ),
+        (
+            JsonFault::Range(0),
+            "the number at byte 0 does not fit 64 bits",
+        ),
+        (
+            JsonFault::TooDeep(64),
+            "the bracket at byte 64 opens a 65th level",
+        ),
+        (JsonFault::TooLong, "the text is longer than 1048576 bytes"),
+        (JsonFault::Memory, "out of memory"),
+    ];
+    for (fault, want) in rows.iter() {
+        let shown = format!(in rt.alloc(); "{fault}")?;
+        assert_eq!(rt; shown.as_str(), *want);
+    }
+    Ok(())
+}
