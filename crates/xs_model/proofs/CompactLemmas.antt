@@ -9,7 +9,7 @@ use Rattle.xs_model.specs.declared.value.Value.TheVariants as value
 pub compact-List : (members : List Value) → compact_text (value.List members) ≡ bracketed 91 93 (map compact_text members)
 compact-List members = search (rules, the_lemmas)
 
-map-keyed : (members : List (List ℕ × Value)) → map member_text (map (λ m. (m.0, compact_text m.1)) members) ≡ map keyed_text members
+pub map-keyed : (members : List (List ℕ × Value)) → map member_text (map (λ m. (m.0, compact_text m.1)) members) ≡ map keyed_text members
 map-keyed [] = refl
 map-keyed (m ∷ members) = ap (λ texts. keyed_text m ∷ texts) (map-keyed members)
 

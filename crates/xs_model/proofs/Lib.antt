@@ -4,3 +4,10 @@ pub mod RisingLemmas
 pub mod SameLemmas
 pub mod PathLemmas
 pub mod EvalLemmas
+pub mod PartLemmas
+pub mod EqualityLemmas
+pub mod PutLemmas
+pub mod CopyLemmas
+pub mod SpellingLemmas
+pub mod TextLemmas
+pub mod NumberLemmas

@@ -23,13 +23,13 @@ none_is_some e = cc
 turned : (k l : List ℕ) (o : Ordering) → key_cmp l k ≡ o → key_cmp k l ≡ ordering_reverse o
 turned k l o e = nat_list_cmp_total.antisymm k l ∙ ap ordering_reverse e
 
-same_key : (k l : List ℕ) → key_cmp k l ≡ Equal → k ≡ l
+pub same_key : (k l : List ℕ) → key_cmp k l ≡ Equal → k ≡ l
 same_key k l e = (bytes_eq-Decides k l).0 (sym (is_eq-slice_cmp k l) ∙ ap is_eq e)
 
-differs : (k l : List ℕ) (o : Ordering) → key_cmp k l ≡ o → is_eq o ≡ false → bytes_eq k l ≡ false
+pub differs : (k l : List ℕ) (o : Ordering) → key_cmp k l ≡ o → is_eq o ≡ false → bytes_eq k l ≡ false
 differs k l o e other = sym (is_eq-slice_cmp k l) ∙ ap is_eq e ∙ other
 
-same_bytes : (k : List ℕ) → bytes_eq k k ≡ true
+pub same_bytes : (k : List ℕ) → bytes_eq k k ≡ true
 same_bytes k = (bytes_eq-Decides k k).1 refl
 
 module _ {X : Type 0} where

@@ -11,7 +11,7 @@ member_same m = both_pass (m.0, same m.1)
 pub same-List : (xs ys : List Value) → same (value.List xs) (value.List ys) ≡ pass_in_turn (map same xs) ys
 same-List xs ys = search (rules, the_lemmas)
 
-map-both_pass : (xs : List (List ℕ × Value)) → map both_pass (map (λ m. (m.0, same m.1)) xs) ≡ map member_same xs
+pub map-both_pass : (xs : List (List ℕ × Value)) → map both_pass (map (λ m. (m.0, same m.1)) xs) ≡ map member_same xs
 map-both_pass [] = refl
 map-both_pass (m ∷ xs) = ap (λ tests. member_same m ∷ tests) (map-both_pass xs)
 

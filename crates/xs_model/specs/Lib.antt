@@ -3,4 +3,5 @@ pub mod Compact
 pub mod Same
 pub mod Paths
 pub mod Eval
+pub mod Laws
 pub mod formers

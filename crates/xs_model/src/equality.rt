@@ -1,11 +1,12 @@
-ghost use Rattle.std.specs.Prelude.{◌≡◌};
+ghost use Rattle.std.specs.Prelude.{◌≡◌, Decides};
 ghost use Rattle.xs_model.specs.Same.{same};
 
 use crate::value::Value;
 
 /// Whether two values are equal. It takes no memory, and looks at each of their bytes at most once.
 pub fn same(a: &Value, b: &Value) -> bool
-    ensures { result ≡ same a.now b.now }
+    ensures test { result ≡ same a.now b.now }
+    ensures decides { Decides result (a.now ≡ b.now) }
 {
     match (a, b) {
         (Value::Null, Value::Null) => true,

@@ -8,6 +8,7 @@ mod equality;
 mod evaluation;
 mod expr;
 mod fields;
+pub mod laws;
 mod nesting;
 mod operators;
 mod paths;
