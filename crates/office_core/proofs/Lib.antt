@@ -2,6 +2,7 @@ pub mod FlatLemmas
 pub mod LawLemmas
 pub mod LineLemmas
 pub mod MapLemmas
+pub mod PlaceLemmas
 pub mod QueueLemmas
 pub mod RequestLemmas
 pub mod RunLemmas

@@ -6,6 +6,7 @@ mod flat_text;
 mod json_words;
 mod laws;
 mod office;
+mod places;
 mod request;
 mod request_line;
 

@@ -4,7 +4,7 @@ use Rattle.std.proofs.lemmas.List.Elements.{All-nil}
 use Rattle.std.specs.Prelude.{None}
 use Rattle.xs_outside.specs.Beside.{Beside, Stamped, HasMoments}
 use Rattle.xs_outside.specs.Counts.{Rose}
-use Rattle.xs_outside.specs.Disk.{Sides, SameImages, Later, Passes}
+use Rattle.xs_outside.specs.Disk.{Sides, SameImages, Passes}
 
 -- any image may be left
 abbrev pub Anything : Sides → Type 0
