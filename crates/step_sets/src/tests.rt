@@ -1,6 +1,6 @@
 //! Worked steps as computations of sets, and the calls beside the definitions computed plainly.
 
-ghost use Rattle.std.specs.Prelude.{◌≡◌, ◌↔◌, ◌<◌, IsTrue, length};
+ghost use Rattle.std.specs.Prelude.{◌↔◌, ◌<◌, IsTrue, length};
 ghost use Rattle.std.specs.List.Sorted.{IsStrictlyIncreasing};
 ghost use Rattle.node_tree.specs.Nodes.{AreNodes};
 ghost use Rattle.step_sets.specs.Domains.{IsDomainOf};
