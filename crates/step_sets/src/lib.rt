@@ -11,6 +11,8 @@ mod marks;
 mod nodes;
 mod preemption;
 mod targets;
+#[cfg(test)]
+mod tests;
 mod transition_domain;
 mod types;
 
