@@ -8,11 +8,11 @@ mod equality;
 mod evaluation;
 mod expr;
 mod fields;
+mod names;
 mod nesting;
 mod operators;
 mod paths;
-mod size;
-mod value;
+mod size;mod value;
 
 pub use action::{Action, ActionItem, ActionItems, Target};
 pub use copies::copy;
@@ -23,6 +23,7 @@ pub use expr::{
     Arithmetic, Binary, Comparison, Connective, Division, Expr, Exprs, Parts, Source, Unary,
 };
 pub use fields::Entries;
+pub use names::Names;
 pub use nesting::depth;
 pub use paths::at_path;
 pub use size::{quoted_len, text_len};
