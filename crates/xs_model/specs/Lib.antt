@@ -1,4 +1,5 @@
 pub mod Rising
+pub mod Named
 pub mod Compact
 pub mod Same
 pub mod Paths

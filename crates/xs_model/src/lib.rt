@@ -9,6 +9,7 @@ mod evaluation;
 mod expr;
 mod fields;
 pub mod laws;
+mod names;
 mod nesting;
 mod operators;
 mod paths;
@@ -24,6 +25,7 @@ pub use expr::{
     Arithmetic, Binary, Comparison, Connective, Division, Expr, Exprs, Parts, Source, Unary,
 };
 pub use fields::Entries;
+pub use names::Names;
 pub use nesting::depth;
 pub use paths::at_path;
 pub use size::{quoted_len, text_len};
