@@ -1,5 +1,5 @@
 -- Evaluating the parts of a list or a map one after another.
-use Rattle.std.proofs.Common.{◌≡◌, ℕ, zero, suc, ◌+◌, ◌<◌, ◌≤◌, List, [], ◌∷◌, ◌++◌, length, map, fold, get_or, drop, Result, Ok, Err, refl, sym, ap, ◌∙◌, arith, rules, append_assoc, append-nil, drop-cons}
+use Rattle.std.proofs.Common.{◌≡◌, ℕ, zero, suc, ◌<◌, ◌≤◌, List, [], ◌∷◌, ◌++◌, length, map, fold, get_or, drop, Result, Ok, Err, refl, sym, ap, ◌∙◌, arith, rules, append_assoc}
 use Rattle.xs_model.specs.declared.env.Env.{Env}
 use Rattle.xs_model.specs.declared.env.EvalFault.{EvalFault}
 use Rattle.xs_model.specs.declared.expr.Expr.{Expr, the_lemmas}

@@ -1,4 +1,4 @@
-use Rattle.std.proofs.Common.{◌≡◌, sym, ◌∙◌, ap, rules}
+use Rattle.std.proofs.Common.{sym, ◌∙◌, ap, rules}
 use Rattle.xs_model.specs.Paths.{walk}
 use Rattle.xs_model.proofs.PathLemmas.{cut_once, uncut, walk-missing, walk-found, walk-last}
 use Rattle.xs_model.proofs.paths.at_path.Goals as goal

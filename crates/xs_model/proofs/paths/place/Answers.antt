@@ -1,5 +1,5 @@
-use Rattle.std.proofs.Common.{◌≡◌, ◌≢◌, ◌<◌, ℕ, length, get_or, arith, rules, inl, inr, sym, ◌∙◌}
-use Rattle.xs_model.proofs.PathLemmas.{IsNoPlace, no_place-empty, no_place-plus, no_place-zero, parsed, first_is, no_first}
+use Rattle.std.proofs.Common.{◌≡◌, length, get_or, arith, inl, inr, sym, ◌∙◌}
+use Rattle.xs_model.proofs.PathLemmas.{no_place-empty, no_place-plus, no_place-zero, parsed, first_is, no_first}
 use Rattle.xs_model.proofs.paths.place.Goals as goal
 use Rattle.xs_model.proofs.paths.place.Goals.{then-first-eq43-via-then-first-eq43, then-first-eq43-via-else-first-eq43+then-key-gt1, then-first-eq48, else-first-eq48}
 

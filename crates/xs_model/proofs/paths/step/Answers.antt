@@ -1,4 +1,4 @@
-use Rattle.std.proofs.Common.{◌≡◌, ◌≤◌, ◌+◌, ◌^◌, length, arith, rules, sym, ◌∙◌, decimal, ap, zero-add}
+use Rattle.std.proofs.Common.{◌≡◌, ◌≤◌, ◌+◌, ◌^◌, length, arith, sym, ◌∙◌, decimal, ap, zero-add}
 use Rattle.xs_model.proofs.PathLemmas.{member_at-none, member_at-some, step-List}
 use Rattle.xs_model.proofs.paths.step.Goals as goal
 

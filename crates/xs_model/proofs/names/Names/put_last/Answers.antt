@@ -1,4 +1,4 @@
-use Rattle.std.proofs.Common.{◌≡◌, None, ◌∙◌, ap, List, ℕ}
+use Rattle.std.proofs.Common.{◌≡◌, None, ◌∙◌, ap}
 use Rattle.xs_model.specs.Named.{named}
 use Rattle.xs_model.specs.Rising.{get}
 use Rattle.xs_model.proofs.NamedLemmas.{insert-named}
