@@ -14,6 +14,8 @@ mod nesting;
 mod operators;
 mod paths;
 mod size;
+#[cfg(test)]
+mod tests;
 mod value;
 
 pub use action::{Action, ActionItem, ActionItems, Target};

@@ -1,0 +1,6 @@
+mod choices;
+mod given;
+mod holders;
+mod limits;
+mod operators;
+mod parts;
