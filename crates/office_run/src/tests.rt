@@ -19,12 +19,14 @@ const USAGE: &[u8] = b"usage: xoffice check, run, show, audit, load or serve\n";
 
 const RUN: &[&str] = &["run", "office.json", "office"];
 
-// A run over the memory forms of the outside: its words, the bytes of its sources, and which calls of the station fail.
+// A run over the memory forms of the outside: its words, the bytes of its sources, and which calls of the definitions'
+// source and of the station fail.
 #[derive(Clone, Copy, Drop)]
 struct Case<'a> {
     words: &'a [&'a str],
     definitions: &'a [u8],
     input: &'a [u8],
+    source_fails: &'a [u64],
     fails: &'a [u64],
 }
 
@@ -33,6 +35,7 @@ fn script(input: &[u8]) -> Case<'_> {
         words: RUN,
         definitions: TOGGLE,
         input,
+        source_fails: &[],
         fails: &[],
     }
 }
@@ -42,6 +45,7 @@ fn failing(fails: &[u64]) -> Case<'_> {
         words: RUN,
         definitions: TOGGLE,
         input: SCRIPT,
+        source_fails: &[],
         fails,
     }
 }
@@ -51,7 +55,8 @@ fn ended(alloc: Global, case: &Case) -> Result<Ended<MemoryStation>, Fail> {
     for word in case.words {
         words.push(RcStr::from_string(word.to_string(alloc)?)?)?;
     }
-    let mut definitions = MemorySource::new(case.definitions.to_vec(alloc)?, Vec::new(alloc))?;
+    let source_fails = case.source_fails.to_vec(alloc)?;
+    let mut definitions = MemorySource::new(case.definitions.to_vec(alloc)?, source_fails)?;
     let input = case.input.to_vec(alloc)?;
     let fails = case.fails.to_vec(alloc)?;
     let station = MemoryStation::new(input, Vec::new(alloc), Vec::new(alloc), fails)?;
@@ -106,6 +111,22 @@ fn words_and_definitions_are_refused(rt: HostRuntime) -> Result<(), Fail> {
         let ended = ended(rt.alloc(), &case)?;
         assert_eq!(rt; ended.status, 3);
         assert_eq!(rt; ended.station.output(), b"definitions\n".as_slice());
+    }
+    Ok(())
+}
+
+// The calls of the definitions' source: one read, and the read that finds the end. A third isn't made.
+#[test]
+fn definitions_that_fail_end_the_run(rt: HostRuntime) -> Result<(), Fail> {
+    let rows: [(&[u64], u8, &[u8]); 3] = [(&[1], 5, b""), (&[2], 5, b""), (&[3], 0, ANSWERS)];
+    for (source_fails, status, answers) in &rows {
+        let case = Case {
+            source_fails,
+            ..script(SCRIPT)
+        };
+        let ended = ended(rt.alloc(), &case)?;
+        assert_eq!(rt; ended.status, *status);
+        assert_eq!(rt; ended.station.output(), *answers);
     }
     Ok(())
 }
