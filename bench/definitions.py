@@ -8,7 +8,8 @@ import os
 import subprocess
 import sys
 import tempfile
-import time
+
+from timing import best
 
 LIMIT = 1_048_576
 
@@ -54,15 +55,6 @@ TEXTS = {
     "machines of one state": many_machines,
     "transitions of one state": one_state,
 }
-
-
-def best(of, times):
-    readings = []
-    for _ in range(times):
-        start = time.perf_counter()
-        of()
-        readings.append(time.perf_counter() - start)
-    return min(readings) * 1000
 
 
 def main():

@@ -9,9 +9,11 @@ import os
 import subprocess
 import sys
 import tempfile
-import time
+
+from timing import best
 
 LIMIT = 1_048_576
+TIMES = 15
 
 
 def repeated(part):
@@ -32,15 +34,6 @@ TEXTS = {
 }
 
 
-def best(of, times=15):
-    readings = []
-    for _ in range(times):
-        start = time.perf_counter()
-        of()
-        readings.append(time.perf_counter() - start)
-    return min(readings) * 1000
-
-
 def main():
     program = sys.argv[1]
     with tempfile.TemporaryDirectory() as room:
@@ -50,11 +43,11 @@ def main():
             with open(path, "w") as file:
                 file.write(text)
             run = [program, "run", path, "journal"]
-            return best(lambda: subprocess.run(run, stdin=subprocess.DEVNULL, stdout=subprocess.DEVNULL))
+            return best(lambda: subprocess.run(run, stdin=subprocess.DEVNULL, stdout=subprocess.DEVNULL), TIMES)
 
         nothing = read("")
         for name, text in TEXTS.items():
-            print(f"{name}: {len(text)} bytes, {read(text) - nothing:.1f} ms; python3 {best(lambda: json.loads(text)):.1f} ms")
+            print(f"{name}: {len(text)} bytes, {read(text) - nothing:.1f} ms; python3 {best(lambda: json.loads(text), TIMES):.1f} ms")
 
 
 main()
