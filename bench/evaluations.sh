@@ -87,26 +87,38 @@ fn wanted(rt: &HostRuntime) -> anyhow::Result<u64> {
     Ok(1)
 }
 
-fn main(rt: HostRuntime) -> anyhow::Result<()> {
-    let alloc = rt.alloc();
-    let count = wanted(&rt)?;
+fn add_one(rt: &HostRuntime, count: u64) -> anyhow::Result<()> {
+    let number = context(rt.alloc(), "n", Value::Int(41))?;
     let add = Binary::Arithmetic(Arithmetic::Add);
-    let number = context(alloc, "n", Value::Int(41))?;
-    measure(&rt, "add", &expression(alloc, add, "n", Expr::Int(1))?, &number, count)?;
-    // With its key, its brackets and its commas each context has 60,000 bytes of compact text.
-    let list = context(alloc, "list", zeros(alloc, 29_995)?)?;
-    let append = expression(alloc, Binary::Append, "list", Expr::Int(1))?;
-    measure(&rt, "append", &append, &list, count / 1_000)?;
-    let text = context(alloc, "text", letters(alloc, 59_989)?)?;
-    let one = Expr::Text(Text::from_str(alloc, "a")?);
-    let concat = expression(alloc, Binary::Concat, "text", one)?;
-    measure(&rt, "concat", &concat, &text, count / 1_000)?;
-    Ok(())
+    let expr = expression(rt.alloc(), add, "n", Expr::Int(1))?;
+    measure(rt, "add", &expr, &number, count)
+}
+
+// With its key, its brackets and its commas the context has 60,000 bytes of compact text, and below too.
+fn append_to_a_list(rt: &HostRuntime, count: u64) -> anyhow::Result<()> {
+    let list = context(rt.alloc(), "list", zeros(rt.alloc(), 29_995)?)?;
+    let expr = expression(rt.alloc(), Binary::Append, "list", Expr::Int(1))?;
+    measure(rt, "append", &expr, &list, count)
+}
+
+fn append_to_a_text(rt: &HostRuntime, count: u64) -> anyhow::Result<()> {
+    let text = context(rt.alloc(), "text", letters(rt.alloc(), 59_989)?)?;
+    let letter = Expr::Text(Text::from_str(rt.alloc(), "a")?);
+    let expr = expression(rt.alloc(), Binary::Concat, "text", letter)?;
+    measure(rt, "concat", &expr, &text, count)
+}
+
+fn main(rt: HostRuntime) -> anyhow::Result<()> {
+    let count = wanted(&rt)?;
+    add_one(&rt, count)?;
+    append_to_a_list(&rt, count / 1_000)?;
+    append_to_a_text(&rt, count / 1_000)
 }
 PROGRAM
 
 cd "$room/crates/evaluations"
-rt run -- "$count" >"$room/measured.txt" 2>"$room/build.log" || { tail -n 20 "$room/build.log" >&2; exit 1; }
+rt run -- "$count" >"$room/measured.txt" 2>"$room/build.log" ||
+    { grep 'no proof\|error' "$room/build.log" >&2; exit 1; }
 awk 'NF == 4 {
     seconds = $3 + $4 / 1000000
     printf "%s: %d in %.2f s, %d a second\n", $1, $2, seconds, $2 / seconds
