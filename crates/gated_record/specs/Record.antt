@@ -1,5 +1,5 @@
 -- A side that holds one record behind a gate.
-use Rattle.std.specs.Prelude.{◌≡◌, ℕ, List, [], ◌∷◌, if◌then◌else◌, ◌==◌, Some, None}
+use Rattle.std.specs.Prelude.{ℕ, List, [], ◌∷◌, if◌then◌else◌, ◌==◌, Some, None}
 use Rattle.std.specs.declared.option.Option.{Option}
 
 -- what stands behind an open gate
