@@ -4,14 +4,12 @@
 What definitions without a machine cost is taken off; of so many runs the best counts.
 usage: definitions.py PROGRAM [TIMES]
 """
-import os
-import subprocess
 import sys
-import tempfile
 
-from timing import best
+from timing import run_over
 
 LIMIT = 1_048_576
+DONE = 0
 
 
 def office(machines):
@@ -60,19 +58,14 @@ TEXTS = {
 def main():
     program = sys.argv[1]
     times = int(sys.argv[2]) if len(sys.argv) > 2 else 5
-    with tempfile.TemporaryDirectory() as room:
-        path = os.path.join(room, "office.json")
 
-        def read(text):
-            with open(path, "w") as file:
-                file.write(text)
-            run = [program, "run", path, "journal"]
-            return best(lambda: subprocess.run(run, stdin=subprocess.DEVNULL, stdout=subprocess.DEVNULL, check=True), times)
+    def read(text):
+        return run_over(program, text, DONE, times)
 
-        nothing = read(office([]))
-        for name, text_of in TEXTS.items():
-            count, text = largest(text_of)
-            print(f"{count} {name}: {len(text)} bytes, {read(text) - nothing:.1f} ms")
+    nothing = read(office([]))
+    for name, text_of in TEXTS.items():
+        count, text = largest(text_of)
+        print(f"{count} {name}: {len(text)} bytes, {read(text) - nothing:.1f} ms")
 
 
 main()

@@ -5,15 +5,13 @@ The program reads each text as definitions, which it then refuses; what an empty
 usage: json_reader.py PROGRAM
 """
 import json
-import os
-import subprocess
 import sys
-import tempfile
 
-from timing import best
+from timing import best, run_over
 
 LIMIT = 1_048_576
 TIMES = 15
+REFUSED = 3
 
 
 def repeated(part):
@@ -36,18 +34,13 @@ TEXTS = {
 
 def main():
     program = sys.argv[1]
-    with tempfile.TemporaryDirectory() as room:
-        path = os.path.join(room, "text.json")
 
-        def read(text):
-            with open(path, "w") as file:
-                file.write(text)
-            run = [program, "run", path, "journal"]
-            return best(lambda: subprocess.run(run, stdin=subprocess.DEVNULL, stdout=subprocess.DEVNULL), TIMES)
+    def read(text):
+        return run_over(program, text, REFUSED, TIMES)
 
-        nothing = read("")
-        for name, text in TEXTS.items():
-            print(f"{name}: {len(text)} bytes, {read(text) - nothing:.1f} ms; python3 {best(lambda: json.loads(text), TIMES):.1f} ms")
+    nothing = read("")
+    for name, text in TEXTS.items():
+        print(f"{name}: {len(text)} bytes, {read(text) - nothing:.1f} ms; python3 {best(lambda: json.loads(text), TIMES):.1f} ms")
 
 
 main()
