@@ -62,6 +62,23 @@ fn bad() -> io::Error {
     io::Error::from(ErrorKind::InvalidData)
 }
 
+/// Out of the parallel node to the last node, which stands beside it, and back from there to these targets.
+fn beside(alloc: Global, rows: Vec<(Option<u32>, Kind)>, targets: Vec<u32>) -> io::Result<Shape> {
+    Ok(Shape {
+        rows,
+        out: Way {
+            domain: "domain_out",
+            source: 1,
+            targets: vec![in alloc; COUNT - 1]?,
+        },
+        back: Way {
+            domain: "domain_back",
+            source: COUNT - 1,
+            targets,
+        },
+    })
+}
+
 /// A parallel node of leaves, and from one number on deep history nodes, and a node beside it.
 fn wide(alloc: Global, first_history: u32) -> io::Result<Shape> {
     let mut rows = vec![in alloc;
@@ -77,19 +94,7 @@ fn wide(alloc: Global, first_history: u32) -> io::Result<Shape> {
         rows.push((Some(1), kind))?;
     }
     rows.push((Some(0), Kind::Atomic))?;
-    Ok(Shape {
-        rows,
-        out: Way {
-            domain: "domain_out",
-            source: 1,
-            targets: vec![in alloc; COUNT - 1]?,
-        },
-        back: Way {
-            domain: "domain_back",
-            source: COUNT - 1,
-            targets: vec![in alloc; COUNT - 2]?,
-        },
-    })
+    beside(alloc, rows, vec![in alloc; COUNT - 2]?)
 }
 
 /// A parallel node with 1,023 regions of two leaves and a history node each, and two nodes beside it.
@@ -109,19 +114,7 @@ fn regions(alloc: Global) -> io::Result<Shape> {
     }
     rows.push((Some(0), Kind::Atomic))?;
     rows.push((Some(0), Kind::Atomic))?;
-    Ok(Shape {
-        rows,
-        out: Way {
-            domain: "domain_out",
-            source: 1,
-            targets: vec![in alloc; COUNT - 1]?,
-        },
-        back: Way {
-            domain: "domain_back",
-            source: COUNT - 1,
-            targets,
-        },
-    })
+    beside(alloc, rows, targets)
 }
 
 /// 2,047 levels, each with a deep history node, a leaf under the last, and a node beside the first. The
