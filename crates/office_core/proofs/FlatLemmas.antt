@@ -9,7 +9,7 @@ use denote.Ref.{Bor}
 use Rattle.ordered_json.specs.declared.json.Member.{Member as JsonMember}
 use Rattle.ordered_json.specs.declared.json.OrderedJson.{OrderedJson}
 use Rattle.ordered_json.specs.Words.{members_of, member_parts, key_of}
-use Rattle.office_core.specs.FlatText.{only_if, fields_of, keys_of, place_of_state}
+use Rattle.office_core.specs.FlatText.{only_if, fields_of, member_keys, place_of_state}
 use Rattle.office_core.proofs.MapLemmas.{position-map}
 
 -- the members, if the test holds
@@ -26,7 +26,7 @@ abbrev pub with_front : {Y : Type 0} → List Y → Option (List Y) → Option (
 with_front front rest = option_map (λ ys. front ++ ys) rest
 
 -- where a state stands among the members of `states`
-pub place_among : (members : List JsonMember) (key : List ℕ) → place_of_state (keys_of (map member_parts members)) key ≡ position (λ m. bytes_eq (key_of m) key) members
+pub place_among : (members : List JsonMember) (key : List ℕ) → place_of_state (member_keys (map member_parts members)) key ≡ position (λ m. bytes_eq (key_of m) key) members
 unfolding place_of_state
 place_among members key =
     position-map (λ k. bytes_eq k key) (λ m. m.0) (map member_parts members) ∙ position-map (λ m. bytes_eq m.0 key) member_parts members

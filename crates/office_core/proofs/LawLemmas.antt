@@ -11,11 +11,11 @@ use Rattle.office_core.specs.declared.flat.FlatMachine.{FlatMachine}
 use Rattle.office_core.specs.declared.request.Ask.{Ask}
 use Rattle.office_core.specs.declared.request.Ask.TheVariants.{Start, Send}
 use Rattle.office_core.specs.declared.office.Event.TheVariants.{Init, Sent}
-use Rattle.office_core.specs.Office.{Letter, Actor, Office, empty_office, is_given, actor_of, machine_of, started, next_state, moved, stepped, took}
-use Rattle.office_core.specs.Runs.{Entry, decision, turn, after_entry, after, along, mailbox, told, sent_to, sent_from, taken_by}
+use Rattle.office_core.specs.Office.{Letter, Actor, Office, empty_office, is_given, actor_of, machine_of, start_decision, next_state, actor_state_after, actor_after_step, took}
+use Rattle.office_core.specs.Runs.{Entry, decision, turn, after_entry, after, along, mailbox, letter_told, sent_to, sent_along, taken_by, Route}
 use Rattle.office_core.specs.Laws.{RiseFrom, among}
 use Rattle.office_core.proofs.QueueLemmas.{by_test}
-use Rattle.office_core.proofs.RunLemmas.{Change, stays, begins, gets, steps, letters_of, answer, change}
+use Rattle.office_core.proofs.RunLemmas.{Change, stays, begins, gets, steps, letters_of, send_answer, change}
 
 -- ---- no letter is lost
 
@@ -64,34 +64,34 @@ ran-run machines number office (entry ∷ entries) machine runs =
     ran machines (actor_of office number) (actor_of next number) (sent_to machines number office entry) (taken_by number office entry) machine
     (change machines number office entry) (ran-run machines number next entries machine runs)
 
--- a step moves by the head letter
-stepped-moved : (machines : List FlatMachine) (actor : Actor) (machine : FlatMachine) → slice_get machines actor.machine ≡ Some machine → (stepped machines actor).state ≡ fold (moved_by machine) actor.state (take 1 actor.letters)
-stepped-moved machines actor machine there = by_letters actor.letters
+-- a step transitions by the head letter
+actor_after_step-actor_state_after : (machines : List FlatMachine) (actor : Actor) (machine : FlatMachine) → slice_get machines actor.machine ≡ Some machine → (actor_after_step machines actor).state ≡ fold (moved_by machine) actor.state (take 1 actor.letters)
+actor_after_step-actor_state_after machines actor machine there = by_letters actor.letters
   where
-    by_letters : (letters : List Letter) → option_map_or (λ letter. moved machines actor letter.event) (slice_get letters 0) actor.state ≡ fold (moved_by machine) actor.state (take 1 letters)
+    by_letters : (letters : List Letter) → option_map_or (λ letter. actor_state_after machines actor letter.event) (slice_get letters 0) actor.state ≡ fold (moved_by machine) actor.state (take 1 letters)
     by_letters [] = refl
     by_letters (letter ∷ letters) = rw there refl
 
-moves : (machines : List FlatMachine) (before after : Option Actor) (sent taken : List Letter) (place : ℕ) (machine : FlatMachine) → slice_get machines place ≡ Some machine →
+transitions : (machines : List FlatMachine) (before after : Option Actor) (sent taken : List Letter) (place : ℕ) (machine : FlatMachine) → slice_get machines place ≡ Some machine →
     Change machines before after sent taken → Runs place before → state_of after ≡ fold (moved_by machine) (state_of before) taken
-moves machines before after sent taken place machine there (stays now none none') runs = rw (now, none') refl
-moves machines before after sent taken place machine there (begins m letter there' was now one none) runs = rw (was, now, none) refl
-moves machines before after sent taken place machine there (gets actor letter was now one none) runs = rw (was, now, none) refl
-moves machines before after sent taken place machine there (steps actor was now none first) runs =
+transitions machines before after sent taken place machine there (stays now none none') runs = rw (now, none') refl
+transitions machines before after sent taken place machine there (begins m letter there' was now one none) runs = rw (was, now, none) refl
+transitions machines before after sent taken place machine there (gets actor letter was now one none) runs = rw (was, now, none) refl
+transitions machines before after sent taken place machine there (steps actor was now none first) runs =
     let own : actor.machine ≡ place = rw was at runs in
-    rw (was, now, first) (stepped-moved machines actor machine (rw own there))
+    rw (was, now, first) (actor_after_step-actor_state_after machines actor machine (rw own there))
 
-pub state-moves : (machines : List FlatMachine) (number : ℕ) (office : Office) (entries : List Entry) (place : ℕ) (machine : FlatMachine) → slice_get machines place ≡ Some machine →
+pub state-transitions : (machines : List FlatMachine) (number : ℕ) (office : Office) (entries : List Entry) (place : ℕ) (machine : FlatMachine) → slice_get machines place ≡ Some machine →
     Runs place (actor_of (after machines office entries) number) →
     state_of (actor_of (after machines office entries) number) ≡ fold (moved_by machine) (state_of (actor_of office number)) (along machines (taken_by number) office entries)
-state-moves machines number office [] place machine there runs = refl
-state-moves machines number office (entry ∷ entries) place machine there runs =
+state-transitions machines number office [] place machine there runs = refl
+state-transitions machines number office (entry ∷ entries) place machine there runs =
     let next = after_entry machines office entry in
     let taken = taken_by number office entry in
     let more = along machines (taken_by number) next entries in
-    state-moves machines number next entries place machine there runs
+    state-transitions machines number next entries place machine there runs
     ∙ ap (λ state. fold (moved_by machine) state more)
-    (moves machines (actor_of office number) (actor_of next number) (sent_to machines number office entry) taken place machine there
+    (transitions machines (actor_of office number) (actor_of next number) (sent_to machines number office entry) taken place machine there
     (change machines number office entry) (ran-run machines number office (entry ∷ entries) place runs))
     ∙ sym (fold-append (moved_by machine) (state_of (actor_of office number)) taken more)
 
@@ -144,12 +144,12 @@ numbered-ask : (machines : List FlatMachine) (number : ℕ) (office : Office) (c
     Numbered office.next_letter (after_entry machines office (decision (record { caller = caller; number = n; ask = ask }))).next_letter (sent_to machines number office (decision (record { caller = caller; number = n; ask = ask })))
 numbered-ask machines number office caller n (Start id) = by_machine (machine_of machines id)
   where
-    by_machine : (found : Option ℕ) → Numbered office.next_letter (started office found).after.next_letter (told number office (Start id) (started office found).reply)
+    by_machine : (found : Option ℕ) → Numbered office.next_letter (start_decision office found).after.next_letter (letter_told number office (Start id) (start_decision office found).reply)
     by_machine None = unsent refl (omega arith)
     by_machine (Some machine) = one_or_none office.next_letter (record { number = office.next_letter; event = Init }) _ refl
 numbered-ask machines number office caller n (Send to event) = by_given (is_given office to)
   where
-    by_given : (given : Bool) → Numbered office.next_letter (answer office to event given).after.next_letter (told number office (Send to event) (answer office to event given).reply)
+    by_given : (given : Bool) → Numbered office.next_letter (send_answer office to event given).after.next_letter (letter_told number office (Send to event) (send_answer office to event given).reply)
     by_given false = unsent refl (omega arith)
     by_given true = one_or_none office.next_letter (record { number = office.next_letter; event = Sent event }) _ refl
 
@@ -199,12 +199,12 @@ among-entry next next' all own all_more own_more (next_sent letter one numbered 
 among-entry next next' all own all_more own_more (next_sent letter one numbered step) (nothing without) all_rise own_rise more =
     rw (without, one, not_among letter.number next' own_more (omega arith) own_rise) more
 
-part-from : (machines : List FlatMachine) (caller : List ℕ) (number : ℕ) (office : Office) (entry : Entry) → Part (sent_to machines number office entry) (sent_from machines caller number office entry)
-part-from machines caller number office (decision request) = by_test (bytes_eq request.caller caller) (λ e. whole (rw e refl)) (λ e. nothing (rw e refl))
-part-from machines caller number office (turn other) = nothing refl
+part-from : (machines : List FlatMachine) (route : Route) (office : Office) (entry : Entry) → Part (sent_to machines route.actor office entry) (sent_along machines route office entry)
+part-from machines route office (decision request) = by_test (bytes_eq request.caller route.caller) (λ e. whole (rw e refl)) (λ e. nothing (rw e refl))
+part-from machines route office (turn other) = nothing refl
 
-pub numbered-from : (machines : List FlatMachine) (caller : List ℕ) (number : ℕ) (office : Office) (entry : Entry) → Numbered office.next_letter (after_entry machines office entry).next_letter (sent_from machines caller number office entry)
-numbered-from machines caller number office entry = by_part (part-from machines caller number office entry) (numbered machines number office entry)
+pub numbered-from : (machines : List FlatMachine) (route : Route) (office : Office) (entry : Entry) → Numbered office.next_letter (after_entry machines office entry).next_letter (sent_along machines route office entry)
+numbered-from machines route office entry = by_part (part-from machines route office entry) (numbered machines route.actor office entry)
   where
     by_part : {all own : List Letter} {next next' : ℕ} → Part all own → Numbered next next' all → Numbered next next' own
     by_part (whole same) sent = rw same sent
@@ -212,14 +212,14 @@ numbered-from machines caller number office entry = by_part (part-from machines 
     by_part (nothing without) (next_sent letter one numbered step) = unsent without (omega arith)
 
 -- of all letters sent to an actor those with the numbers of a caller's are the caller's
-pub among-sent : (machines : List FlatMachine) (caller : List ℕ) (number : ℕ) (office : Office) (entries : List Entry) →
-    among (along machines (sent_from machines caller number) office entries) (along machines (sent_to machines number) office entries) ≡ along machines (sent_from machines caller number) office entries
-among-sent machines caller number office [] = refl
-among-sent machines caller number office (entry ∷ entries) =
+pub among-sent : (machines : List FlatMachine) (route : Route) (office : Office) (entries : List Entry) →
+    among (along machines (sent_along machines route) office entries) (along machines (sent_to machines route.actor) office entries) ≡ along machines (sent_along machines route) office entries
+among-sent machines route office [] = refl
+among-sent machines route office (entry ∷ entries) =
     let next = after_entry machines office entry in
-    among-entry office.next_letter next.next_letter (sent_to machines number office entry) (sent_from machines caller number office entry)
-    (along machines (sent_to machines number) next entries) (along machines (sent_from machines caller number) next entries)
-    (numbered machines number office entry) (part-from machines caller number office entry)
-    (rise-run machines (sent_to machines number) (numbered machines number) next entries)
-    (rise-run machines (sent_from machines caller number) (numbered-from machines caller number) next entries)
-    (among-sent machines caller number next entries)
+    among-entry office.next_letter next.next_letter (sent_to machines route.actor office entry) (sent_along machines route office entry)
+    (along machines (sent_to machines route.actor) next entries) (along machines (sent_along machines route) next entries)
+    (numbered machines route.actor office entry) (part-from machines route office entry)
+    (rise-run machines (sent_to machines route.actor) (numbered machines route.actor) next entries)
+    (rise-run machines (sent_along machines route) (numbered-from machines route) next entries)
+    (among-sent machines route next entries)

@@ -2,6 +2,7 @@
 use Rattle.std.proofs.Common.{◌≡◌, ◌≢◌, ℕ, ◌^◌, ◌<◌, List, [], ◌∷◌, ◌++◌, refl, sym, ap, subst, ◌∙◌}
 use Rattle.std.specs.Prelude.{Result, Ok, Err, Some, IsTrue, decimal, codes, option_and_then, IsErrAnd}
 use Rattle.std.proofs.lemmas.Fmt.{decimal_injective}
+use Rattle.xs_data.specs.Ascii.{space}
 use Rattle.ordered_json.specs.declared.fault.JsonFault.{JsonFault}
 use Rattle.ordered_json.specs.declared.fault.JsonFault.TheVariants as faults
 use Rattle.ordered_json.specs.declared.json.OrderedJson.{OrderedJson}
@@ -14,25 +15,26 @@ use Rattle.office_core.specs.declared.request.Request.{Request}
 use Rattle.office_core.specs.declared.request_line.LineFault.{LineFault}
 use Rattle.office_core.specs.declared.request_line.LineFault.TheVariants.{NotALine, Memory}
 use Rattle.office_core.specs.LineParts.{IsCut, IsNumber, IsNameText, IsStart, IsSend, line_fault}
-use Rattle.office_core.specs.RequestLine.{Reads, IsAsk, IsEvent, IsRequest, RequestIsUnique, spaced, is_sendable, type_in}
+use Rattle.office_core.specs.RequestLine.{ReadsLine, IsAsk, IsEvent, IsRequest, spaced_text, is_sendable, type_in}
+use Rattle.office_core.specs.Laws.{RequestIsUnique}
 use Rattle.office_core.proofs.LineLemmas.{IsCut-unique, spaceless_caller, spaceless_decimal, spaceless_visible}
 
 -- where a part can't be read the whole can't
-pub refused : {X Y : Type 0} (P : X → Type 0) (Q : Y → Type 0) (fault : LineFault) → Reads P (Err fault) → ((y : Y) → Q y → (x : X) × P x) → Reads Q (Err fault)
+pub refused : {X Y : Type 0} (P : X → Type 0) (Q : Y → Type 0) (fault : LineFault) → ReadsLine P (Err fault) → ((y : Y) → Q y → (x : X) × P x) → ReadsLine Q (Err fault)
 refused P Q NotALine none part = λ y is. let p = part y is in none p.0 p.1
 refused P Q Memory none part = tt
 
 -- what a fault says holds where a `?` hands the fault on
-pub handed_on : {Y : Type 0} (Q : Y → Type 0) (read : Result Y LineFault) (fault : LineFault) → IsErrAnd read (λ e. e ≡ fault) → Reads Q (Err fault) → Reads Q read
+pub handed_on : {Y : Type 0} (Q : Y → Type 0) (read : Result Y LineFault) (fault : LineFault) → IsErrAnd read (λ e. e ≡ fault) → ReadsLine Q (Err fault) → ReadsLine Q read
 handed_on Q (Ok y) fault is none = absurd is
-handed_on Q (Err e) fault is none = subst (λ (f : LineFault). Reads Q (Err f)) (sym is) none
+handed_on Q (Err e) fault is none = subst (λ (f : LineFault). ReadsLine Q (Err f)) (sym is) none
 
 -- where a `?` hands a part's fault on, the whole can't be read
-pub refused_at : {X Y : Type 0} (P : X → Type 0) (Q : Y → Type 0) (read : Result Y LineFault) (fault : LineFault) → IsErrAnd read (λ e. e ≡ fault) → Reads P (Err fault) → ((y : Y) → Q y → (x : X) × P x) → Reads Q read
+pub refused_at : {X Y : Type 0} (P : X → Type 0) (Q : Y → Type 0) (read : Result Y LineFault) (fault : LineFault) → IsErrAnd read (λ e. e ≡ fault) → ReadsLine P (Err fault) → ((y : Y) → Q y → (x : X) × P x) → ReadsLine Q read
 refused_at P Q read fault is none part = handed_on Q read fault is (refused P Q fault none part)
 
 -- what reads one reads the other, where the two are the same
-pub reads_as : {X : Type 0} (P Q : X → Type 0) (read : Result X LineFault) → Reads P read → ((x : X) → P x → Q x) → ((x : X) → Q x → P x) → Reads Q read
+pub reads_as : {X : Type 0} (P Q : X → Type 0) (read : Result X LineFault) → ReadsLine P read → ((x : X) → P x → Q x) → ((x : X) → Q x → P x) → ReadsLine Q read
 reads_as P Q (Ok x) is to from = to x is
 reads_as P Q (Err NotALine) none to from = λ x is. none x (from x is)
 reads_as P Q (Err Memory) is to from = tt
@@ -41,16 +43,16 @@ reads_as P Q (Err Memory) is to from = tt
 pub event_is : MeaningIsUnique → (bytes : List ℕ) (json : OrderedJson) → Means bytes json → (event : List ℕ) → IsEvent bytes event → (option_and_then type_in (members_of json) ≡ Some event) × IsTrue (is_sendable event)
 event_is unique bytes json means event is =
     let P : OrderedJson → Type 0 = λ j. option_and_then type_in (members_of j) ≡ Some event in
-    (subst P (unique bytes is.0 json is.1 means) is.2, is.3)
+    (subst P (unique bytes is.json json is.means means) is.type_is, is.sendable)
 
 -- a text that is refused is no event's
-pub no_event : (bytes : List ℕ) (fault : JsonFault) → (fault ≢ faults.Memory → IsMeaningless bytes) → Reads (IsEvent bytes) (Err (line_fault fault))
-no_event bytes (faults.Syntax place) refused = λ event is. refused (λ e. cc) is.0 is.1
-no_event bytes (faults.DoubleKey place) refused = λ event is. refused (λ e. cc) is.0 is.1
-no_event bytes (faults.Fraction place) refused = λ event is. refused (λ e. cc) is.0 is.1
-no_event bytes (faults.Range place) refused = λ event is. refused (λ e. cc) is.0 is.1
-no_event bytes (faults.TooDeep place) refused = λ event is. refused (λ e. cc) is.0 is.1
-no_event bytes faults.TooLong refused = λ event is. refused (λ e. cc) is.0 is.1
+pub no_event : (bytes : List ℕ) (fault : JsonFault) → (fault ≢ faults.Memory → IsMeaningless bytes) → ReadsLine (IsEvent bytes) (Err (line_fault fault))
+no_event bytes (faults.Syntax place) refused = λ event is. refused (λ e. cc) is.json is.means
+no_event bytes (faults.DoubleKey place) refused = λ event is. refused (λ e. cc) is.json is.means
+no_event bytes (faults.Fraction place) refused = λ event is. refused (λ e. cc) is.json is.means
+no_event bytes (faults.Range place) refused = λ event is. refused (λ e. cc) is.json is.means
+no_event bytes (faults.TooDeep place) refused = λ event is. refused (λ e. cc) is.json is.means
+no_event bytes faults.TooLong refused = λ event is. refused (λ e. cc) is.json is.means
 no_event bytes faults.Memory refused = tt
 
 -- a start is cut behind the machine's id
@@ -59,7 +61,7 @@ start_cut bytes machine is = record { joined = is.1; spaceless = spaceless_visib
 
 -- a name and what stands behind it in a start are a start
 pub start_from : (bytes first rest machine : List ℕ) → IsCut bytes first rest → rest ≡ codes "- null" → IsNameText first machine → IsStart bytes machine
-start_from bytes first rest machine cut null is = (is.1, cut.joined ∙ ap (λ text. text ++ 32 ∷ rest) is.0 ∙ ap (λ text. machine ++ 32 ∷ text) null)
+start_from bytes first rest machine cut null is = (is.1, cut.joined ∙ ap (λ text. text ++ space ∷ rest) is.0 ∙ ap (λ text. machine ++ space ∷ text) null)
 
 -- the first part of a start is the machine's id
 pub start_name : (bytes first rest machine : List ℕ) → IsCut bytes first rest → IsStart bytes machine → IsNameText first machine
@@ -83,11 +85,11 @@ AskParts word rest (Send actor event) = (word ≡ codes "send") × IsSend rest (
 
 pub ask_parts : (text word rest : List ℕ) → IsCut text word rest → (ask : Ask) → IsAsk text ask → AskParts word rest ask
 ask_parts text word rest cut (Start machine) is =
-    let behind = spaced (machine ∷ codes "-" ∷ codes "null" ∷ []) in
+    let behind = spaced_text (machine ∷ codes "-" ∷ codes "null" ∷ []) in
     let same = IsCut-unique text word rest (codes "start") behind cut (record { joined = is.1; spaceless = refl }) in
     (same.0, (is.0, same.1))
 ask_parts text word rest cut (Send actor event) is =
-    let behind = spaced (decimal actor ∷ is.1 ∷ []) in
+    let behind = spaced_text (decimal actor ∷ is.1 ∷ []) in
     let same = IsCut-unique text word rest (codes "send") behind cut (record { joined = is.3; spaceless = refl }) in
     (same.0, (is.0, is.1, is.2, same.1))
 
@@ -107,17 +109,17 @@ asks_nothing word rest not_start not_send (Start machine) parts = not_start part
 asks_nothing word rest not_start not_send (Send actor event) parts = not_send parts.0
 
 -- a request's line is cut behind the caller
-pub caller_cut : (line : List ℕ) (request : Request) (is : IsRequest line request) → IsCut line request.caller (spaced (decimal request.number ∷ is.ask ∷ []))
+pub caller_cut : (line : List ℕ) (request : Request) (is : IsRequest line request) → IsCut line request.caller (spaced_text (decimal request.number ∷ is.ask ∷ []))
 caller_cut line request is = record { joined = is.spelled; spaceless = spaceless_caller request.caller is.caller }
 
 -- and behind the caller it is cut behind the number
-pub number_cut : (request : Request) → request.number < 2 ^ 64 → (ask : List ℕ) → IsCut (spaced (decimal request.number ∷ ask ∷ [])) (decimal request.number) ask
+pub number_cut : (request : Request) → request.number < 2 ^ 64 → (ask : List ℕ) → IsCut (spaced_text (decimal request.number ∷ ask ∷ [])) (decimal request.number) ask
 number_cut request small ask = record { joined = refl; spaceless = spaceless_decimal request.number small }
 
 -- what stands behind the caller of a request
 pub behind_caller : (line caller rest : List ℕ) → IsCut line caller rest → (request : Request) (is : IsRequest line request) → (caller ≡ request.caller) × IsCut rest (decimal request.number) is.ask
 behind_caller line caller rest cut request is =
-    let same = IsCut-unique line caller rest request.caller (spaced (decimal request.number ∷ is.ask ∷ [])) cut (caller_cut line request is) in
+    let same = IsCut-unique line caller rest request.caller (spaced_text (decimal request.number ∷ is.ask ∷ [])) cut (caller_cut line request is) in
     let P : List ℕ → Type 0 = λ text. IsCut text (decimal request.number) is.ask in
     (same.0, subst P (sym same.1) (number_cut request is.number is.ask))
 
@@ -141,7 +143,7 @@ same_number bytes m n one other = decimal_injective m n one.0 other.0 (sym one.1
 -- bytes mean one event
 events_agree : MeaningIsUnique → (bytes a b : List ℕ) → IsEvent bytes a → IsEvent bytes b → a ≡ b
 events_agree unique bytes a b one other =
-    let both : Some a ≡ Some b = sym one.2 ∙ (event_is unique bytes one.0 one.1 b other).0 in
+    let both : Some a ≡ Some b = sym one.type_is ∙ (event_is unique bytes one.json one.means b other).0 in
     cc
 
 starts_agree : (bytes a b : List ℕ) → IsStart bytes a → IsStart bytes b → a ≡ b
@@ -154,19 +156,19 @@ sends_agree unique bytes a b one other =
 
 asks_agree : MeaningIsUnique → (text : List ℕ) (a b : Ask) → IsAsk text a → IsAsk text b → a ≡ b
 asks_agree unique text (Start machine) (Start machine') one other =
-    let parts = ask_parts text (codes "start") (spaced (machine ∷ codes "-" ∷ codes "null" ∷ [])) (record { joined = one.1; spaceless = refl }) (Start machine') other in
-    ap (λ (id : List ℕ). Start id) (starts_agree (spaced (machine ∷ codes "-" ∷ codes "null" ∷ [])) machine machine' (one.0, refl) parts.1)
+    let parts = ask_parts text (codes "start") (spaced_text (machine ∷ codes "-" ∷ codes "null" ∷ [])) (record { joined = one.1; spaceless = refl }) (Start machine') other in
+    ap (λ (id : List ℕ). Start id) (starts_agree (spaced_text (machine ∷ codes "-" ∷ codes "null" ∷ [])) machine machine' (one.0, refl) parts.1)
 asks_agree unique text (Start machine) (Send actor event) one other =
-    let parts = ask_parts text (codes "start") (spaced (machine ∷ codes "-" ∷ codes "null" ∷ [])) (record { joined = one.1; spaceless = refl }) (Send actor event) other in
+    let parts = ask_parts text (codes "start") (spaced_text (machine ∷ codes "-" ∷ codes "null" ∷ [])) (record { joined = one.1; spaceless = refl }) (Send actor event) other in
     let bad : codes "start" ≡ codes "send" = parts.0 in
     absurd cc
 asks_agree unique text (Send actor event) (Start machine) one other =
-    let parts = ask_parts text (codes "send") (spaced (decimal actor ∷ one.1 ∷ [])) (record { joined = one.3; spaceless = refl }) (Start machine) other in
+    let parts = ask_parts text (codes "send") (spaced_text (decimal actor ∷ one.1 ∷ [])) (record { joined = one.3; spaceless = refl }) (Start machine) other in
     let bad : codes "send" ≡ codes "start" = parts.0 in
     absurd cc
 asks_agree unique text (Send actor event) (Send actor' event') one other =
-    let parts = ask_parts text (codes "send") (spaced (decimal actor ∷ one.1 ∷ [])) (record { joined = one.3; spaceless = refl }) (Send actor' event') other in
-    let same = sends_agree unique (spaced (decimal actor ∷ one.1 ∷ [])) (actor, event) (actor', event') (one.0, one.1, one.2, refl) parts.1 in
+    let parts = ask_parts text (codes "send") (spaced_text (decimal actor ∷ one.1 ∷ [])) (record { joined = one.3; spaceless = refl }) (Send actor' event') other in
+    let same = sends_agree unique (spaced_text (decimal actor ∷ one.1 ∷ [])) (actor, event) (actor', event') (one.0, one.1, one.2, refl) parts.1 in
     ap (λ (n : ℕ). Send n event) same.0 ∙ ap (λ (type : List ℕ). Send actor' type) same.1
 
 request_of : (a b : Request) → a.caller ≡ b.caller → a.number ≡ b.number → a.ask ≡ b.ask → a ≡ b
@@ -177,5 +179,5 @@ request_of a b callers numbers asks =
 -- a line is the line of one request at most, where a text has one meaning at most
 pub request_is_unique : MeaningIsUnique → RequestIsUnique
 request_is_unique unique line a b one other =
-    let parts = request_parts line a.caller (spaced (decimal a.number ∷ one.ask ∷ [])) (decimal a.number) one.ask (caller_cut line a one) (number_cut a one.number one.ask) b other in
+    let parts = request_parts line a.caller (spaced_text (decimal a.number ∷ one.ask ∷ [])) (decimal a.number) one.ask (caller_cut line a one) (number_cut a one.number one.ask) b other in
     request_of a b parts.called (same_number (decimal a.number) a.number b.number (one.number, refl) parts.numbered) (asks_agree unique one.ask a.ask b.ask one.asked parts.asked)

@@ -11,8 +11,9 @@ use Rattle.office_core.specs.declared.request.Ask.{Ask}
 use Rattle.office_core.specs.declared.request.Ask.TheVariants.{Start, Send}
 use Rattle.office_core.specs.declared.request.Word.TheVariants as word
 use Rattle.office_core.specs.declared.office.Event.TheVariants.{Init, Sent}
-use Rattle.office_core.specs.Office.{Letter, Actor, Office, changed_at, is_given, actor_of, with_letter, machine_of, Decision, started, stepped, took}
-use Rattle.office_core.specs.Runs.{Entry, decision, turn, after_entry, told, sent_to, taken_by}
+use Rattle.office_core.specs.declared.request.TheConstants.{STATUS_ACCEPTED, STATUS_NOT_FOUND}
+use Rattle.office_core.specs.Office.{Letter, Actor, Office, changed_at, is_given, actor_of, with_letter, machine_of, Decision, reply_with, start_decision, actor_after_step, took}
+use Rattle.office_core.specs.Runs.{Entry, decision, turn, after_entry, letter_told, sent_to, taken_by}
 use Rattle.office_core.proofs.QueueLemmas.{by_test, none_some, with_one_more, get-within}
 
 -- ---- the actor of a number after a change
@@ -82,7 +83,7 @@ pub data Change (machines : List FlatMachine) (before after : Option Actor) (sen
   begins : (machine : ℕ) (letter : Letter) → IsSome (slice_get machines machine) → before ≡ None →
       after ≡ Some (record { machine = machine; state = None; letters = letter ∷ [] }) → sent ≡ letter ∷ [] → taken ≡ [] → Change machines before after sent taken
   gets : (actor : Actor) (letter : Letter) → before ≡ Some actor → after ≡ Some (with_one_more letter actor) → sent ≡ letter ∷ [] → taken ≡ [] → Change machines before after sent taken
-  steps : (actor : Actor) → before ≡ Some actor → after ≡ Some (stepped machines actor) → sent ≡ [] → taken ≡ take 1 actor.letters → Change machines before after sent taken
+  steps : (actor : Actor) → before ≡ Some actor → after ≡ Some (actor_after_step machines actor) → sent ≡ [] → taken ≡ take 1 actor.letters → Change machines before after sent taken
 
 -- the letters of an actor that may be there
 abbrev pub letters_of : Option Actor → List Letter
@@ -124,7 +125,7 @@ change-start : (machines : List FlatMachine) (number : ℕ) (office : Office) (c
 change-start machines number office caller n id = by_machine (machine_of machines id) refl
   where
     by_machine : (found : Option ℕ) → machine_of machines id ≡ found →
-        Change machines (actor_of office number) (actor_of (started office found).after number) (told number office (Start id) (started office found).reply) []
+        Change machines (actor_of office number) (actor_of (start_decision office found).after number) (letter_told number office (Start id) (start_decision office found).reply) []
     by_machine None at = stays refl refl refl
     by_machine (Some machine) at = by_test (eqb (length office.actors + 1) number)
         (λ e. let own : length office.actors + 1 ≡ number = grind (arith, nat_tests) in
@@ -134,16 +135,16 @@ change-start machines number office caller n id = by_machine (machine_of machine
         stays (actor_in-push_other office.actors _ number other) (rw e refl) refl)
 
 -- what a send is answered where the actor is there, and where it isn't
-abbrev pub answer : Office → ℕ → List ℕ → Bool → Decision
-answer office to event given = cond given
-    (record { reply = record { status = 202; word = word.Letter; value = office.next_letter }; after = with_letter office to event })
-    (record { reply = record { status = 404; word = word.Actor; value = to }; after = office })
+abbrev pub send_answer : Office → ℕ → List ℕ → Bool → Decision
+send_answer office to event given = cond given
+    (record { reply = reply_with STATUS_ACCEPTED word.Letter office.next_letter; after = with_letter office to event })
+    (record { reply = reply_with STATUS_NOT_FOUND word.Actor to; after = office })
 
 change-send : (machines : List FlatMachine) (number : ℕ) (office : Office) (caller : List ℕ) (n to : ℕ) (event : List ℕ) → ChangeBy machines number office (decision (record { caller = caller; number = n; ask = Send to event }))
 change-send machines number office caller n to event = by_given (is_given office to) refl
   where
     by_given : (given : Bool) → is_given office to ≡ given →
-        Change machines (actor_of office number) (actor_of (answer office to event given).after number) (told number office (Send to event) (answer office to event given).reply) []
+        Change machines (actor_of office number) (actor_of (send_answer office to event given).after number) (letter_told number office (Send to event) (send_answer office to event given).reply) []
     by_given false not_given = stays refl refl refl
     by_given true given =
         let positive = (given-place office to given).0 in
@@ -172,11 +173,11 @@ change-turn machines number office other = by_given (is_given office other) refl
         let there = given-actor office other given in
         let here : actor_of office number ≡ Some there.0 = rw (← own) there.1 in
         steps there.0 here
-        (rw (← own) (actor_in-changed office.actors (stepped machines) other positive ∙ ap (option_map (stepped machines)) there.1))
+        (rw (← own) (actor_in-changed office.actors (actor_after_step machines) other positive ∙ ap (option_map (actor_after_step machines)) there.1))
         refl (rw e (ap (λ found. take 1 (letters_of found)) here)))
         (λ e.
         let differs : number ≢ other = grind (arith, nat_tests) in
-        stays (actor_in-changed_other office.actors (stepped machines) other number positive differs) refl (rw e refl))
+        stays (actor_in-changed_other office.actors (actor_after_step machines) other number positive differs) refl (rw e refl))
     by_given false not_given = by_test (eqb other number)
         (λ e.
         let own : other ≡ number = grind (arith, nat_tests) in

@@ -1,17 +1,19 @@
 -- The parts of a line, by which its reader goes.
-use Rattle.std.specs.Prelude.{◌≡◌, ℕ, ◌^◌, ◌<◌, Bool, false, not, ◌&&◌, ◌==◌, nat_le, List, [], ◌∷◌, ◌++◌, IsTrue, decimal, codes}
+use Rattle.std.specs.Prelude.{◌≡◌, ℕ, ◌^◌, ◌<◌, Bool, false, not, ◌&&◌, ◌==◌, List, [], ◌∷◌, ◌++◌, IsTrue, decimal, codes}
+use Rattle.std.specs.Char.{is_ascii_digit}
 use Rattle.std.specs.List.{list_all}
+use Rattle.xs_data.specs.Ascii.{space, digit_zero}
 use Rattle.ordered_json.specs.declared.fault.JsonFault.{JsonFault}
 use Rattle.office_core.specs.declared.request_line.LineFault.{LineFault}
-use Rattle.office_core.specs.RequestLine.{spaced, is_caller, is_decimal, IsName, IsEvent}
+use Rattle.office_core.specs.RequestLine.{spaced_text, is_caller, IsName, IsEvent}
 
 -- no space is among the bytes
 abbrev pub is_spaceless : List ℕ → Bool
-is_spaceless bytes = list_all (λ b. not (b == 32)) bytes
+is_spaceless bytes = list_all (λ b. not (b == space)) bytes
 
 -- the bytes have a space, and these stand before and after the first one
 pub record IsCut (bytes first rest : List ℕ) : Type 0 where
-  pub joined : bytes ≡ first ++ 32 ∷ rest
+  pub joined : bytes ≡ first ++ space ∷ rest
   pub spaceless : IsTrue (is_spaceless first)
 
 -- the bytes spell a number of 64 bits
@@ -21,8 +23,8 @@ IsNumber bytes number = (number < 2 ^ 64) × (bytes ≡ decimal number)
 -- a digit stands first, and it is no 0 where another byte follows
 abbrev pub begins_number : List ℕ → Bool
 begins_number [] = false
-begins_number (b ∷ []) = is_decimal b
-begins_number (b ∷ c ∷ bs) = nat_le 49 b && nat_le b 57
+begins_number (b ∷ []) = is_ascii_digit b
+begins_number (b ∷ c ∷ bs) = is_ascii_digit b && not (b == digit_zero)
 
 -- the bytes are a name
 abbrev pub IsNameText : List ℕ → List ℕ → Type 0
@@ -34,11 +36,13 @@ IsCallerText bytes caller = (bytes ≡ caller) × IsTrue (is_caller caller)
 
 -- what stands after the word `start`, with the machine's id
 abbrev pub IsStart : List ℕ → List ℕ → Type 0
-IsStart bytes machine = IsName machine × (bytes ≡ spaced (machine ∷ codes "-" ∷ codes "null" ∷ []))
+IsStart bytes machine = IsName machine × (bytes ≡ spaced_text (machine ∷ codes "-" ∷ codes "null" ∷ []))
 
 -- what stands after the word `send`, with the actor and the type of the event
 abbrev pub IsSend : List ℕ → ℕ × List ℕ → Type 0
-IsSend bytes sent = (sent.0 < 2 ^ 64) × (json : List ℕ) × IsEvent json sent.1 × (bytes ≡ spaced (decimal sent.0 ∷ json ∷ []))
+IsSend bytes sent =
+    (sent.0 < 2 ^ 64) × (json : List ℕ) × IsEvent json sent.1
+    × (bytes ≡ spaced_text (decimal sent.0 ∷ json ∷ []))
 
 -- what a fault of the event's JSON comes to
 abbrev pub line_fault : JsonFault → LineFault

@@ -6,6 +6,8 @@ use Rattle.office_core.specs.declared.flat.FlatMachine.{FlatMachine}
 use Rattle.office_core.specs.declared.request.Ask.{Ask}
 use Rattle.office_core.specs.declared.request.Ask.TheVariants.{Start, Send}
 use Rattle.office_core.specs.declared.request.Reply.{Reply}
+use Rattle.office_core.specs.declared.request.TheConstants.{STATUS_CREATED, STATUS_ACCEPTED, STATUS_NOT_FOUND}
+use Rattle.office_core.specs.declared.request.Word.{Word}
 use Rattle.office_core.specs.declared.request.Word.TheVariants as word
 use Rattle.office_core.specs.declared.office.Event.{Event}
 use Rattle.office_core.specs.declared.office.Event.TheVariants.{Init, Sent}
@@ -17,7 +19,8 @@ pub record Letter : Type 0 where
   pub number : ℕ
   pub event : Event
 
--- an actor: the place of its machine, the place of its state, which is none before the first step, and the letters that wait for it, oldest first
+-- an actor: the place of its machine, the place of its state, which is none before the first step, and the letters that
+-- wait for it, oldest first
 pub record Actor : Type 0 where
   pub machine : ℕ
   pub state : Option ℕ
@@ -28,6 +31,7 @@ pub record Office : Type 0 where
   pub actors : List Actor
   pub next_letter : ℕ
 
+-- no actor, and no letter yet
 abbrev pub empty_office : Office
 empty_office = record { actors = []; next_letter = 1 }
 
@@ -47,14 +51,21 @@ actor_of office number = if nat_lt 0 number then slice_get office.actors (number
 
 -- the office with one actor changed
 abbrev pub with_actor : Office → ℕ → (Actor → Actor) → Office
-with_actor office number change = record { actors = changed_at (number - 1) change office.actors; next_letter = office.next_letter }
+with_actor office number change = record {
+  actors = changed_at (number - 1) change office.actors;
+  next_letter = office.next_letter;
+}
 
 -- ---- decisions
 
 -- a new actor of the machine, with the letter that begins it
 abbrev pub with_new : Office → ℕ → Office
 with_new office machine = record {
-  actors = office.actors ++ record { machine = machine; state = None; letters = record { number = office.next_letter; event = Init } ∷ [] } ∷ [];
+  actors = office.actors ++ record {
+    machine = machine;
+    state = None;
+    letters = record { number = office.next_letter; event = Init } ∷ [];
+  } ∷ [];
   next_letter = office.next_letter + 1;
 }
 
@@ -62,7 +73,11 @@ with_new office machine = record {
 abbrev pub with_letter : Office → ℕ → List ℕ → Office
 with_letter office number event = record {
   actors = changed_at (number - 1)
-      (λ actor. record { machine = actor.machine; state = actor.state; letters = actor.letters ++ record { number = office.next_letter; event = Sent event } ∷ [] })
+      (λ actor. record {
+        machine = actor.machine;
+        state = actor.state;
+        letters = actor.letters ++ record { number = office.next_letter; event = Sent event } ∷ [];
+      })
       office.actors;
   next_letter = office.next_letter + 1;
 }
@@ -72,24 +87,37 @@ pub record Decision : Type 0 where
   pub reply : Reply
   pub after : Office
 
-abbrev pub started : Office → Option ℕ → Decision
-started office None = record { reply = record { status = 404; word = word.Machine; value = 0 }; after = office }
-started office (Some machine) = record { reply = record { status = 201; word = word.Actor; value = length office.actors + 1 }; after = with_new office machine }
+-- a status, a word and a value
+abbrev pub reply_with : ℕ → Word → ℕ → Reply
+reply_with status says value = record { status = status; word = says; value = value }
+
+-- on a start: a new actor of the machine, or there is no such machine
+abbrev pub start_decision : Office → Option ℕ → Decision
+start_decision office None =
+    record { reply = reply_with STATUS_NOT_FOUND word.Machine 0; after = office }
+start_decision office (Some machine) = record {
+  reply = reply_with STATUS_CREATED word.Actor (length office.actors + 1);
+  after = with_new office machine;
+}
 
 -- the machine with this id, by its place
 abbrev pub machine_of : List FlatMachine → List ℕ → Option ℕ
 machine_of machines id = position (λ machine. bytes_eq machine.id id) machines
 
-abbrev pub sent : Office → ℕ → List ℕ → Decision
-sent office actor event =
+-- on a send: a new letter to the actor, or there is no such actor
+abbrev pub send_decision : Office → ℕ → List ℕ → Decision
+send_decision office actor event =
     if is_given office actor
-    then record { reply = record { status = 202; word = word.Letter; value = office.next_letter }; after = with_letter office actor event }
-    else record { reply = record { status = 404; word = word.Actor; value = actor }; after = office }
+    then record {
+      reply = reply_with STATUS_ACCEPTED word.Letter office.next_letter;
+      after = with_letter office actor event;
+    }
+    else record { reply = reply_with STATUS_NOT_FOUND word.Actor actor; after = office }
 
 -- what is decided on a request
 abbrev pub decided : List FlatMachine → Office → Ask → Decision
-decided machines office (Start id) = started office (machine_of machines id)
-decided machines office (Send actor event) = sent office actor event
+decided machines office (Start id) = start_decision office (machine_of machines id)
+decided machines office (Send actor event) = send_decision office actor event
 
 -- ---- steps
 
@@ -99,24 +127,32 @@ next_state machine state Init = Some machine.initial
 next_state machine state (Sent event) = option_map (λ place. state_after machine place event) state
 
 -- the state of an actor after an event
-abbrev pub moved : List FlatMachine → Actor → Event → Option ℕ
-moved machines actor event = option_map_or (λ machine. next_state machine actor.state event) (slice_get machines actor.machine) None
+abbrev pub actor_state_after : List FlatMachine → Actor → Event → Option ℕ
+actor_state_after machines actor event =
+    option_map_or (λ machine. next_state machine actor.state event) (slice_get machines actor.machine) None
 
 -- the actor after a step: it takes its head letter, and is in the state that the letter's event leads to
-abbrev pub stepped : List FlatMachine → Actor → Actor
-stepped machines actor = record {
+abbrev pub actor_after_step : List FlatMachine → Actor → Actor
+actor_after_step machines actor = record {
   machine = actor.machine;
-  state = option_map_or (λ letter. moved machines actor letter.event) (slice_get actor.letters 0) actor.state;
+  state = option_map_or
+      (λ letter. actor_state_after machines actor letter.event)
+      (slice_get actor.letters 0)
+      actor.state;
   letters = drop 1 actor.letters;
 }
 
 -- the office with an actor in this state, and its head letter taken
 abbrev pub with_step : Office → ℕ → Option ℕ → Office
-with_step office number state = with_actor office number (λ actor. record { machine = actor.machine; state = state; letters = drop 1 actor.letters })
+with_step office number state = with_actor office number (λ actor. record {
+  machine = actor.machine;
+  state = state;
+  letters = drop 1 actor.letters;
+})
 
 -- the office after a step of an actor
 abbrev pub took : List FlatMachine → Office → ℕ → Office
-took machines office number = with_actor office number (stepped machines)
+took machines office number = with_actor office number (actor_after_step machines)
 
 -- ---- which actor is next
 
@@ -125,16 +161,18 @@ abbrev pub head_of : Actor → Option ℕ
 head_of actor = option_map (λ letter. letter.number) (slice_get actor.letters 0)
 
 -- the one with the lesser letter
-abbrev pub earlier : Option Claim → Option Claim → Option Claim
-earlier None other = other
-earlier (Some claim) None = Some claim
-earlier (Some claim) (Some other) = Some (if nat_lt other.letter claim.letter then other else claim)
+abbrev pub earlier_claim : Option Claim → Option Claim → Option Claim
+earlier_claim None other = other
+earlier_claim (Some claim) None = Some claim
+earlier_claim (Some claim) (Some other) = Some (if nat_lt other.letter claim.letter then other else claim)
 
 -- of the actors from this number on, the one with the least head letter
 abbrev pub least_head : ℕ → List Actor → Option Claim
 least_head number [] = None
 least_head number (actor ∷ actors) =
-    earlier (option_map (λ letter. record { actor = number; letter = letter }) (head_of actor)) (least_head (number + 1) actors)
+    earlier_claim
+    (option_map (λ letter. record { actor = number; letter = letter }) (head_of actor))
+    (least_head (number + 1) actors)
 
 -- the actor with the least head letter of all, and that letter
 abbrev pub first_ready : Office → Option Claim
@@ -148,9 +186,16 @@ pub data Shown : Type 0 where
   waiting : Shown
   key : List ℕ → Shown
 
+-- what is shown of an actor of this machine in this state
 abbrev pub shown_state : Option FlatMachine → Option ℕ → Shown
 shown_state machine None = waiting
-shown_state machine (Some place) = option_map_or (λ state. key state.key) (option_and_then (λ m. slice_get m.states place) machine) waiting
+shown_state machine (Some place) =
+    option_map_or (λ state. key state.key) (option_and_then (λ m. slice_get m.states place) machine) waiting
 
+-- what is shown of the actor of this number
 abbrev pub value_of : List FlatMachine → Office → ℕ → Shown
-value_of machines office number = option_map_or (λ actor. shown_state (slice_get machines actor.machine) actor.state) (actor_of office number) never
+value_of machines office number =
+    option_map_or
+    (λ actor. shown_state (slice_get machines actor.machine) actor.state)
+    (actor_of office number)
+    never

@@ -5,24 +5,26 @@ use Rattle.office_core.specs.declared.office.Change.TheVariants.{Nothing, Begin,
 use Rattle.office_core.specs.declared.office.Plan.{Plan}
 use Rattle.office_core.specs.declared.request.Ask.{Ask}
 use Rattle.office_core.specs.declared.request.Reply.{Reply}
+use Rattle.office_core.specs.declared.request.TheConstants.{STATUS_OK}
 use Rattle.office_core.specs.declared.request.Word.TheVariants as word
 use Rattle.office_core.specs.declared.office.Claim.{Claim}
 use Rattle.office_core.specs.declared.office.StepRefused.{StepRefused}
 use Rattle.office_core.specs.declared.office.StepRefused.TheVariants.{Gone, Memory}
-use Rattle.office_core.specs.Office.{Office, Decision, is_given, actor_of, head_of, with_new, with_letter, with_step, decided, took}
+use Rattle.office_core.specs.Office.{Office, Decision, reply_with, is_given, actor_of, head_of, with_new, with_letter, with_step, decided, took}
 use Rattle.office_core.specs.View.{Kept}
 
 -- the office after a change
-abbrev pub changed : Office → Change → Office
-changed office Nothing = office
-changed office (Begin machine) = with_new office machine
-changed office (Post actor event) = with_letter office actor event
-changed office (Step actor state) = with_step office actor state
+abbrev pub office_after_change : Office → Change → Office
+office_after_change office Nothing = office
+office_after_change office (Begin machine) = with_new office machine
+office_after_change office (Post actor event) = with_letter office actor event
+office_after_change office (Step actor state) = with_step office actor state
 
--- the office after a plan is carried out, and the reply that it gives
-abbrev pub put : Office → Plan → Office
-put office plan = changed office plan.change
+-- the office after a plan is carried out
+abbrev pub office_after_plan : Office → Plan → Office
+office_after_plan office plan = office_after_change office plan.change
 
+-- the reply that carrying it out gives
 abbrev pub reply_of : Plan → Reply
 reply_of plan = plan.reply
 
@@ -32,8 +34,10 @@ HasLetterRoom core = (0 < core.letter_room) × (core.office.next_letter + 1 < 2 
 
 -- one more actor has room, with the letter that begins it, and a number
 abbrev pub FitsBegin : Kept → Type 0
-FitsBegin core = (0 < core.actor_room) × HasLetterRoom core × (length core.office.actors + 1 < 2 ^ 64)
+FitsBegin core =
+    (0 < core.actor_room) × HasLetterRoom core × (length core.office.actors + 1 < 2 ^ 64)
 
+-- the change can be made of the core as it is
 abbrev pub FitsChange : Kept → Change → Type 0
 FitsChange core Nothing = Unit {0}
 FitsChange core (Begin machine) = FitsBegin core
@@ -45,7 +49,7 @@ abbrev pub Fits : Kept → Plan → Type 0
 Fits core plan = FitsChange core plan.change
 
 -- machines and office stay; room may have been made
-pub record Stays (old new : Kept) : Type 0 where
+pub record KeepsOffice (old new : Kept) : Type 0 where
   pub machines : new.machines ≡ old.machines
   pub office : new.office ≡ old.office
 
@@ -53,7 +57,7 @@ pub record Stays (old new : Kept) : Type 0 where
 pub record IsPlanFor (core : Kept) (decision : Decision) (plan : Plan) : Type 0 where
   pub fits : Fits core plan
   pub reply : reply_of plan ≡ decision.reply
-  pub after : put core.office plan ≡ decision.after
+  pub after : office_after_plan core.office plan ≡ decision.after
 
 -- the plan is what is decided on the request
 abbrev pub IsDecided : Kept → Ask → Plan → Type 0
@@ -63,12 +67,21 @@ IsDecided core ask plan = IsPlanFor core (decided core.machines core.office ask)
 abbrev pub head_at : Office → ℕ → Option ℕ
 head_at office actor = option_and_then head_of (actor_of office actor)
 
+-- the decision that a step of the claimed actor is
+abbrev pub step_decision : Kept → Claim → Decision
+step_decision core claim = record {
+  reply = reply_with STATUS_OK word.Letter claim.letter;
+  after = took core.machines core.office claim.actor;
+}
+
 -- the plan is the step of the claimed actor by the claimed letter, and it fits
 pub record IsStep (core : Kept) (claim : Claim) (plan : Plan) : Type 0 where
   pub head : head_at core.office claim.actor ≡ Some claim.letter
-  pub step : IsPlanFor core (record { reply = record { status = 200; word = word.Letter; value = claim.letter }; after = took core.machines core.office claim.actor }) plan
+  pub step : IsPlanFor core (step_decision core claim) plan
 
 -- another letter than the claimed one is at the head, or none; of want of memory nothing is said
 abbrev pub IsRefusedStep : Kept → Claim → StepRefused → Type 0
-IsRefusedStep core claim (Gone head) = (head ≡ unwrap_or (head_at core.office claim.actor) 0) × (head_at core.office claim.actor ≢ Some claim.letter)
+IsRefusedStep core claim (Gone head) =
+    (head ≡ unwrap_or (head_at core.office claim.actor) 0)
+    × (head_at core.office claim.actor ≢ Some claim.letter)
 IsRefusedStep core claim Memory = Unit {0}

@@ -7,6 +7,7 @@ use Rattle.office_core.specs.declared.request.Ask.{Ask}
 use Rattle.office_core.specs.declared.request.Ask.TheVariants.{Start, Send}
 use Rattle.office_core.specs.declared.request.Reply.{Reply}
 use Rattle.office_core.specs.declared.request.Request.{Request}
+use Rattle.office_core.specs.declared.request.TheConstants.{STATUS_CREATED, STATUS_ACCEPTED}
 use Rattle.office_core.specs.declared.office.Event.TheVariants.{Init, Sent}
 use Rattle.office_core.specs.Office.{Letter, Office, actor_of, is_given, decided, took}
 
@@ -15,10 +16,12 @@ pub data Entry : Type 0 where
   decision : Request → Entry
   turn : ℕ → Entry
 
--- the office after an entry. The turn of an actor that isn't there changes nothing, nor does that of one for which no letter waits
+-- the office after an entry. The turn of an actor that isn't there changes nothing, nor does that of one for which no
+-- letter waits
 abbrev pub after_entry : List FlatMachine → Office → Entry → Office
 after_entry machines office (decision request) = (decided machines office request.ask).after
-after_entry machines office (turn actor) = if is_given office actor then took machines office actor else office
+after_entry machines office (turn actor) =
+    if is_given office actor then took machines office actor else office
 
 -- the office after a run
 abbrev pub after : List FlatMachine → Office → List Entry → Office
@@ -28,7 +31,8 @@ after machines office (entry ∷ entries) = after machines (after_entry machines
 -- the letters that the entries of a run give, one after the other, each entry at the office that it meets
 abbrev pub along : List FlatMachine → (Office → Entry → List Letter) → Office → List Entry → List Letter
 along machines letters office [] = []
-along machines letters office (entry ∷ entries) = letters office entry ++ along machines letters (after_entry machines office entry) entries
+along machines letters office (entry ∷ entries) =
+    letters office entry ++ along machines letters (after_entry machines office entry) entries
 
 -- ---- letters
 
@@ -36,20 +40,36 @@ along machines letters office (entry ∷ entries) = letters office entry ++ alon
 abbrev pub mailbox : Office → ℕ → List Letter
 mailbox office actor = option_map_or (λ a. a.letters) (actor_of office actor) []
 
--- the letter that a reply tells of, if it is for this actor: 201 has the actor that gets its first letter, 202 the number of the letter sent
-abbrev pub told : ℕ → Office → Ask → Reply → List Letter
-told actor office (Start id) reply = if (reply.status == 201) && (reply.value == actor) then record { number = office.next_letter; event = Init } ∷ [] else []
-told actor office (Send to event) reply = if (reply.status == 202) && (to == actor) then record { number = reply.value; event = Sent event } ∷ [] else []
+-- the letter that a reply tells of, if it is for this actor: one that was made gets its first letter, and a letter that was
+-- accepted has the number that is told
+abbrev pub letter_told : ℕ → Office → Ask → Reply → List Letter
+letter_told actor office (Start id) reply =
+    if (reply.status == STATUS_CREATED) && (reply.value == actor)
+    then record { number = office.next_letter; event = Init } ∷ []
+    else []
+letter_told actor office (Send to event) reply =
+    if (reply.status == STATUS_ACCEPTED) && (to == actor)
+    then record { number = reply.value; event = Sent event } ∷ []
+    else []
 
 -- the letter that an entry sends to an actor
 abbrev pub sent_to : List FlatMachine → ℕ → Office → Entry → List Letter
-sent_to machines actor office (decision request) = told actor office request.ask (decided machines office request.ask).reply
+sent_to machines actor office (decision request) =
+    letter_told actor office request.ask (decided machines office request.ask).reply
 sent_to machines actor office (turn other) = []
 
+-- from a caller to an actor
+pub record Route : Type 0 where
+  pub caller : List ℕ
+  pub actor : ℕ
+
 -- the letter that an entry sends from a caller to an actor
-abbrev pub sent_from : List FlatMachine → List ℕ → ℕ → Office → Entry → List Letter
-sent_from machines caller actor office (decision request) = if bytes_eq request.caller caller then sent_to machines actor office (decision request) else []
-sent_from machines caller actor office (turn other) = []
+abbrev pub sent_along : List FlatMachine → Route → Office → Entry → List Letter
+sent_along machines route office (decision request) =
+    if bytes_eq request.caller route.caller
+    then sent_to machines route.actor office (decision request)
+    else []
+sent_along machines route office (turn other) = []
 
 -- the letter that an actor takes: in its turn the head of its mailbox
 abbrev pub taken_by : ℕ → Office → Entry → List Letter

@@ -4,6 +4,7 @@ use Rattle.office_core.specs.declared.office.FlatValue.{FlatValue}
 use Rattle.office_core.specs.declared.office.FlatValue.TheVariants.{Never, Waiting, Key}
 use Rattle.office_core.specs.Office.{Shown, never, waiting, key}
 
+-- what the value shows
 abbrev pub shown_as : FlatValue → Shown
 shown_as Never = never
 shown_as Waiting = waiting

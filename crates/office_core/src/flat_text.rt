@@ -1,9 +1,13 @@
+//! The reader of definitions: an office of flat machines out of a JSON value.
+
 ghost use Rattle.std.specs.Prelude.{◌≡◌, map, IfOk};
 ghost use Rattle.std.specs.Option.{option_copied};
 ghost use Rattle.ordered_json.specs.Words.{member_parts};
-ghost use Rattle.office_core.specs.FlatText.{Gives, office_in, machine_in, state_of, moves_of, move_of, each_of, is_state_key, is_descriptor, are_distinct};
+ghost use Rattle.office_core.specs.FlatText.{ReadsOffice, office_in, machine_in, state_of, transitions_of, transition_of, each_of, is_state_key, is_descriptor, are_distinct};
 
-use crate::flat::{FlatMachine, FlatMachines, FlatState, FlatStates, Move, Moves};
+use crate::flat::{
+    FlatMachine, FlatMachines, FlatState, FlatStates, FlatTransition, FlatTransitions,
+};
 use crate::json_words::{
     fields_of, items_under, members_of, members_under, text_of, text_under, value_under,
 };
@@ -40,7 +44,7 @@ impl From<AllocError> for FlatFault {
 /// answer is want of memory. The cost is linear in the value, but for the look-up of each target and each id, which takes
 /// the logarithm of the number of keys or ids.
 pub fn read_flat(alloc: Global, text: &OrderedJson) -> Result<FlatMachines, FlatFault>
-    ensures { Gives (office_in text.now) result }
+    ensures { ReadsOffice (office_in text.now) result }
 {
     let fields = fields_of(text, &["machines", "implementations"]).ok_or(FlatFault::NotFlat)?;
     let texts = items_under(fields, "machines").ok_or(FlatFault::NotFlat)?;
@@ -53,8 +57,9 @@ pub fn read_flat(alloc: Global, text: &OrderedJson) -> Result<FlatMachines, Flat
     Ok(machines)
 }
 
+/// The machines of a list.
 fn read_machines(alloc: Global, texts: &[OrderedJson]) -> Result<FlatMachines, FlatFault>
-    ensures { Gives (each_of machine_in texts.now) result }
+    ensures { ReadsOffice (each_of machine_in texts.now) result }
 {
     let mut machines = Items::new(alloc);
     for text in texts {
@@ -66,8 +71,9 @@ fn read_machines(alloc: Global, texts: &[OrderedJson]) -> Result<FlatMachines, F
     Ok(machines)
 }
 
+/// A machine of an `id`, `initial` and `states`.
 fn read_machine(alloc: Global, json: &OrderedJson) -> Result<FlatMachine, FlatFault>
-    ensures { Gives (machine_in json.now) result }
+    ensures { ReadsOffice (machine_in json.now) result }
 {
     let fields = fields_of(json, &["id", "initial", "states"]).ok_or(FlatFault::NotFlat)?;
     let id = text_under(fields, "id").ok_or(FlatFault::NotFlat)?;
@@ -87,8 +93,9 @@ fn read_machine(alloc: Global, json: &OrderedJson) -> Result<FlatMachine, FlatFa
     })
 }
 
+/// The states of an object, each under its key.
 fn read_states(alloc: Global, places: &Places, members: &[Member]) -> Result<FlatStates, FlatFault>
-    ensures { Gives (each_of (state_of places.now) (map member_parts members.now)) result }
+    ensures { ReadsOffice (each_of (state_of places.now) (map member_parts members.now)) result }
 {
     let mut states = Items::new(alloc);
     for member in members {
@@ -100,44 +107,60 @@ fn read_states(alloc: Global, places: &Places, members: &[Member]) -> Result<Fla
     Ok(states)
 }
 
+/// A state under its key, with `on` or without.
 fn read_state(alloc: Global, places: &Places, member: &Member) -> Result<FlatState, FlatFault>
-    ensures { Gives (state_of places.now (member_parts member.now)) result }
+    ensures { ReadsOffice (state_of places.now (member_parts member.now)) result }
 {
     let fields = fields_of(&member.value, &["on"]).ok_or(FlatFault::NotFlat)?;
-    let moves = read_moves(alloc, places, value_under(fields, "on"))?;
+    let transitions = read_transitions(alloc, places, value_under(fields, "on"))?;
     if !is_state_key(member.key.as_bytes()) {
         return Err(FlatFault::NotFlat);
     }
     let key = member.key.copy(alloc)?;
-    Ok(FlatState { key, moves })
+    Ok(FlatState { key, transitions })
 }
 
-// The transitions under `on`, if it is there.
-fn read_moves(alloc: Global, places: &Places, on: Option<&OrderedJson>) -> Result<Moves, FlatFault>
-    ensures { Gives (moves_of places.now (option_copied on.entry)) result }
+/// The transitions under `on`, if it is there.
+fn read_transitions(
+    alloc: Global,
+    places: &Places,
+    on: Option<&OrderedJson>,
+) -> Result<FlatTransitions, FlatFault>
+    ensures { ReadsOffice (transitions_of places.now (option_copied on.entry)) result }
 {
     let Some(on) = on else {
         return Ok(Items::new(alloc));
     };
     let members = members_of(on).ok_or(FlatFault::NotFlat)?;
-    read_each_move(alloc, places, members)
+    read_each_transition(alloc, places, members)
 }
 
-fn read_each_move(alloc: Global, places: &Places, members: &[Member]) -> Result<Moves, FlatFault>
-    ensures { Gives (each_of (move_of places.now) (map member_parts members.now)) result }
+/// The transitions of an object, each under its descriptor.
+fn read_each_transition(
+    alloc: Global,
+    places: &Places,
+    members: &[Member],
+) -> Result<FlatTransitions, FlatFault>
+    ensures { ReadsOffice
+        (each_of (transition_of places.now) (map member_parts members.now)) result }
 {
-    let mut moves = Items::new(alloc);
+    let mut transitions = Items::new(alloc);
     for member in members {
-        let way = read_move(alloc, places, member)?;
-        if moves.push(way).is_err() {
+        let transition = read_transition(alloc, places, member)?;
+        if transitions.push(transition).is_err() {
             return Err(FlatFault::Memory);
         }
     }
-    Ok(moves)
+    Ok(transitions)
 }
 
-fn read_move(alloc: Global, places: &Places, member: &Member) -> Result<Move, FlatFault>
-    ensures { Gives (move_of places.now (member_parts member.now)) result }
+/// A transition under its descriptor, to the state that the text names.
+fn read_transition(
+    alloc: Global,
+    places: &Places,
+    member: &Member,
+) -> Result<FlatTransition, FlatFault>
+    ensures { ReadsOffice (transition_of places.now (member_parts member.now)) result }
 {
     let target = text_of(&member.value).ok_or(FlatFault::NotFlat)?;
     let state = places.find(target.as_str()).ok_or(FlatFault::NotFlat)?;
@@ -145,23 +168,27 @@ fn read_move(alloc: Global, places: &Places, member: &Member) -> Result<Move, Fl
         return Err(FlatFault::NotFlat);
     }
     let descriptor = member.key.copy(alloc)?;
-    Ok(Move { descriptor, state })
+    Ok(FlatTransition { descriptor, state })
 }
 
+/// Whether a target can name a state of this key.
 fn is_state_key(key: &[u8]) -> bool
     ensures { result ≡ is_state_key key.now }
 {
     !key.is_empty() && !key.contains(&b'.') && key[0] != b'#'
 }
 
+/// Whether this is an event type, and no wildcard.
 fn is_descriptor(key: &[u8]) -> bool
     ensures { result ≡ is_descriptor key.now }
 {
     key != b"*".as_slice() && !key.ends_with(b".*".as_slice())
 }
 
+/// Whether no two machines have one id. It takes memory for a copy of each.
 fn are_distinct(alloc: Global, machines: &[FlatMachine]) -> Result<bool, AllocError>
-    ensures { IfOk result (λ distinct. distinct ≡ are_distinct (map (λ machine. machine.id) machines.now)) }
+    ensures { IfOk result (λ distinct.
+        distinct ≡ are_distinct (map (λ machine. machine.id) machines.now)) }
 {
     let mut ids = BTreeSet::new(alloc);
     for machine in machines {

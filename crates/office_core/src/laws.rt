@@ -1,7 +1,6 @@
 //! Laws of the abstract office and of the line of a request. They are about the definitions by which the contracts speak.
 
-ghost use Rattle.office_core.specs.Laws.{ActorsFollowTheirLetters, CallersAreServedInOrder, NextActorHasLeastLetter};
-ghost use Rattle.office_core.specs.RequestLine.{RequestIsUnique};
+ghost use Rattle.office_core.specs.Laws.{ActorsFollowTheirLetters, CallersAreServedInOrder, NextActorHasLeastLetter, RequestIsUnique};
 
 /// The state of each actor is a fold of its letters, in the order of their numbers, over its machine: no letter that it
 /// was sent is lost, taken twice or taken before one that was sent earlier.

@@ -1,14 +1,18 @@
+//! The office in memory: what it decides, which actor is next, and the step that it takes.
+
 ghost use Rattle.std.specs.Prelude.{◌≡◌, ◌+◌, ◌-◌, ◌<◌, ℕ, IsTrue, IfOk, IfErr, Some, None, find, position, length, slice_get, nat_eq, nat_lt, if◌then◌else◌};
 ghost use Rattle.std.specs.Option.{option_copied};
 ghost use Rattle.std.specs.VecDeque.{deque_capacity};
 ghost use Rattle.office_core.specs.Flat.{state_after};
-ghost use Rattle.office_core.specs.Office.{empty_office, started, sent, machine_of, is_given, with_new, with_letter, with_step, first_ready, value_of, shown_state, next_state};
-ghost use Rattle.office_core.specs.Plan.{Fits, FitsBegin, HasLetterRoom, put, reply_of, Stays, IsPlanFor, IsDecided, IsStep, IsRefusedStep};
+ghost use Rattle.office_core.specs.Office.{empty_office, start_decision, send_decision, machine_of, is_given, with_new, with_letter, with_step, first_ready, value_of, shown_state, next_state};
+ghost use Rattle.office_core.specs.Plan.{Fits, FitsBegin, HasLetterRoom, office_after_plan, reply_of, KeepsOffice, IsPlanFor, IsDecided, IsStep, IsRefusedStep};
 ghost use Rattle.office_core.specs.Shown.{shown_as, IsTextShown};
-ghost use Rattle.office_core.specs.View.{without_first, moved_seat};
+ghost use Rattle.office_core.specs.View.{without_first, state_behind};
 
 use crate::flat::{FlatMachine, FlatMachines};
-use crate::request::{Ask, Reply, Request, Word};
+use crate::request::{
+    Ask, Reply, Request, STATUS_ACCEPTED, STATUS_CREATED, STATUS_NOT_FOUND, STATUS_OK, Word,
+};
 use std::alloc::{AllocError, Global};
 use std::collections::VecDeque;
 use std::marker::Model;
@@ -77,13 +81,14 @@ pub struct Plan {
 
 /// An actor's machine, by its place, and the place of the state that it is in.
 #[derive(Debug, Drop)]
-struct Seat {
+struct FlatActor {
     machine: usize,
     state: Option<u32>,
 }
 
+/// A letter in the queue: its number, the actor that it is for, and what it brings.
 #[derive(Debug, Drop)]
-struct Waiting {
+struct QueuedLetter {
     number: u64,
     actor: u64,
     event: Event,
@@ -97,8 +102,8 @@ struct Waiting {
 pub struct Core {
     alloc: Global,
     machines: FlatMachines,
-    seats: Vec<Seat>,
-    waiting: VecDeque<Waiting>,
+    flat_actors: Vec<FlatActor>,
+    queue: VecDeque<QueuedLetter>,
     next_letter: u64,
 }
 
@@ -112,12 +117,16 @@ impl Model for Core {
 
     ghost view = { λ core. record {
       machines = core.machines;
-      office = record { actors = actors_from 1 core.seats.items core.waiting.items; next_letter = core.next_letter };
-      actor_room = vec_capacity core.seats - vec_len core.seats;
-      letter_room = deque_capacity core.waiting - deque_len core.waiting;
+      office = record {
+        actors = actors_from 1 core.flat_actors.items core.queue.items;
+        next_letter = core.next_letter;
+      };
+      actor_room = vec_capacity core.flat_actors - vec_len core.flat_actors;
+      letter_room = deque_capacity core.queue - deque_len core.queue;
     } };
 
-    ghost invariant = { λ core. IsQueue (length core.seats.items) 1 core.next_letter core.waiting.items };
+    ghost invariant = { λ core.
+        IsQueue (length core.flat_actors.items) 1 core.next_letter core.queue.items };
 }
 
 impl Core {
@@ -129,8 +138,8 @@ impl Core {
         Core {
             alloc,
             machines,
-            seats: Vec::new(alloc),
-            waiting: VecDeque::new(alloc),
+            flat_actors: Vec::new(alloc),
+            queue: VecDeque::new(alloc),
             next_letter: 1,
         }
     }
@@ -138,7 +147,7 @@ impl Core {
     /// What a request comes to. It makes the room that carrying it out needs. Where no number is left for
     /// another letter, the answer is want of memory.
     pub fn decide(&mut self, request: &Request) -> Result<Plan, Refused>
-        ensures stays { Stays self.old self.new }
+        ensures stays { KeepsOffice self.old self.new }
         ensures ok { IfOk result (IsDecided self.new request.now.ask) }
     {
         match &request.ask {
@@ -149,11 +158,11 @@ impl Core {
 
     /// The step of a claimed actor: it takes its head letter and moves by the letter's event. It takes no memory.
     pub fn plan_step(&mut self, claim: &Claim) -> Result<Plan, StepRefused>
-        ensures stays { Stays self.old self.new }
+        ensures stays { KeepsOffice self.old self.new }
         ensures ok { IfOk result (IsStep self.new claim.now) }
         ensures refused { IfErr result (IsRefusedStep self.old claim.now) }
     {
-        let Some(letter) = first_letter(&self.waiting, claim.actor) else {
+        let Some(letter) = first_letter(&self.queue, claim.actor) else {
             return Err(StepRefused::Gone(0));
         };
         if letter.number != claim.letter {
@@ -161,7 +170,7 @@ impl Core {
         }
         let state = state_behind(
             &self.machines,
-            self.seats.as_slice(),
+            self.flat_actors.as_slice(),
             claim.actor,
             &letter.event,
         );
@@ -171,7 +180,7 @@ impl Core {
                 state,
             },
             reply: Reply {
-                status: 200,
+                status: STATUS_OK,
                 word: Word::Letter,
                 value: claim.letter,
             },
@@ -182,7 +191,7 @@ impl Core {
     pub fn carry_out(&mut self, plan: Plan) -> Reply
         requires { Fits self.old plan }
         ensures machines { self.new.machines ≡ self.old.machines }
-        ensures office { self.new.office ≡ put self.old.office plan }
+        ensures office { self.new.office ≡ office_after_plan self.old.office plan }
         ensures reply { result ≡ reply_of plan }
     {
         let Plan { change, reply } = plan;
@@ -199,7 +208,7 @@ impl Core {
     pub fn first_ready(&self) -> Option<Claim>
         ensures { result ≡ first_ready self.now.office }
     {
-        let letter = oldest(&self.waiting)?;
+        let letter = oldest(&self.queue)?;
         Some(Claim {
             actor: letter.actor,
             letter: letter.number,
@@ -211,21 +220,23 @@ impl Core {
         ensures shown { shown_as result ≡ value_of self.now.machines self.now.office actor }
         ensures text { IsTextShown result }
     {
-        let Some(seat) = seat_of(self.seats.as_slice(), actor) else {
+        let Some(flat_actor) = flat_actor_of(self.flat_actors.as_slice(), actor) else {
             return FlatValue::Never;
         };
-        shown_state(self.machines.get(seat.machine), seat.state)
+        shown_state(self.machines.get(flat_actor.machine), flat_actor.state)
     }
 
+    /// The decision on a start: a new actor, or there is no such machine.
     fn decide_start(&mut self, id: &[u8]) -> Result<Plan, Refused>
-        ensures stays { Stays self.old self.new }
-        ensures ok { IfOk result (IsPlanFor self.new (started self.old.office (machine_of self.old.machines id.now))) }
+        ensures stays { KeepsOffice self.old self.new }
+        ensures ok { IfOk result (IsPlanFor self.new
+            (start_decision self.old.office (machine_of self.old.machines id.now))) }
     {
         let Some(machine) = machine_with(self.machines.as_slice(), id) else {
             return Ok(Plan {
                 change: Change::Nothing,
                 reply: Reply {
-                    status: 404,
+                    status: STATUS_NOT_FOUND,
                     word: Word::Machine,
                     value: 0,
                 },
@@ -236,22 +247,24 @@ impl Core {
         Ok(Plan {
             change: Change::Begin { machine },
             reply: Reply {
-                status: 201,
+                status: STATUS_CREATED,
                 word: Word::Actor,
                 value,
             },
         })
     }
 
+    /// The decision on a send: a new letter, or there is no such actor.
     fn decide_send(&mut self, actor: u64, event: &Text) -> Result<Plan, Refused>
-        ensures stays { Stays self.old self.new }
-        ensures ok { IfOk result (IsPlanFor self.new (sent self.old.office actor event.now)) }
+        ensures stays { KeepsOffice self.old self.new }
+        ensures ok { IfOk result (IsPlanFor self.new
+            (send_decision self.old.office actor event.now)) }
     {
         if !self.has_actor(actor) {
             return Ok(Plan {
                 change: Change::Nothing,
                 reply: Reply {
-                    status: 404,
+                    status: STATUS_NOT_FOUND,
                     word: Word::Actor,
                     value: actor,
                 },
@@ -262,89 +275,95 @@ impl Core {
         Ok(Plan {
             change: Change::Post { actor, event },
             reply: Reply {
-                status: 202,
+                status: STATUS_ACCEPTED,
                 word: Word::Letter,
                 value,
             },
         })
     }
 
+    /// Whether an actor has this number.
     fn has_actor(&self, actor: u64) -> bool
         ensures { result ≡ is_given self.now.office actor }
     {
-        0 < actor && actor <= self.seats.len() as u64
+        0 < actor && actor <= self.flat_actors.len() as u64
     }
 
-    // Room for one more actor, and its number.
+    /// Room for one more actor, and its number.
     fn make_actor_room(&mut self) -> Result<u64, Refused>
-        ensures stays { Stays self.old self.new }
+        ensures stays { KeepsOffice self.old self.new }
         ensures letters { self.new.letter_room ≡ self.old.letter_room }
-        ensures ok { IfOk result (λ number. (0 < self.new.actor_room) × (number ≡ length self.new.office.actors + 1)) }
+        ensures ok { IfOk result (λ number.
+            (0 < self.new.actor_room) × (number ≡ length self.new.office.actors + 1)) }
     {
-        self.seats.reserve(1)?;
-        (self.seats.len() as u64)
+        self.flat_actors.reserve(1)?;
+        (self.flat_actors.len() as u64)
             .checked_add(1)
             .ok_or(Refused::Memory)
     }
 
-    // Room for one more letter, and its number.
+    /// Room for one more letter, and its number.
     fn make_letter_room(&mut self) -> Result<u64, Refused>
-        ensures stays { Stays self.old self.new }
+        ensures stays { KeepsOffice self.old self.new }
         ensures actors { self.new.actor_room ≡ self.old.actor_room }
-        ensures ok { IfOk result (λ number. HasLetterRoom self.new × (number ≡ self.new.office.next_letter)) }
+        ensures ok { IfOk result (λ number.
+            HasLetterRoom self.new × (number ≡ self.new.office.next_letter)) }
     {
         if self.next_letter == u64::MAX {
             return Err(Refused::Memory);
         }
-        self.waiting.reserve(1)?;
+        self.queue.reserve(1)?;
         Ok(self.next_letter)
     }
 
+    /// Adds an actor of the machine, with the letter that begins it.
     fn begin(&mut self, machine: usize)
         requires { FitsBegin self.old }
         ensures machines { self.new.machines ≡ self.old.machines }
         ensures office { self.new.office ≡ with_new self.old.office machine }
     {
         let number = self.next_letter;
-        let actor = self.seats.len() as u64 + 1;
-        let letter = Waiting {
+        let actor = self.flat_actors.len() as u64 + 1;
+        let letter = QueuedLetter {
             number,
             actor,
             event: Event::Init,
         };
-        self.seats
-            .push(Seat {
+        self.flat_actors
+            .push(FlatActor {
                 machine,
                 state: None,
             })
             .unwrap();
-        self.waiting.push_back(letter).unwrap();
+        self.queue.push_back(letter).unwrap();
         self.next_letter = number + 1;
     }
 
+    /// Adds a letter to an actor.
     fn post(&mut self, actor: u64, event: Text)
         requires given { IsTrue (is_given self.old.office actor) }
         requires room { HasLetterRoom self.old }
         ensures machines { self.new.machines ≡ self.old.machines }
         ensures office { self.new.office ≡ with_letter self.old.office actor event }
     {
-        let letter = Waiting {
+        let letter = QueuedLetter {
             number: self.next_letter,
             actor,
             event: Event::Sent(event),
         };
-        self.waiting.push_back(letter).unwrap();
+        self.queue.push_back(letter).unwrap();
         self.next_letter += 1;
     }
 
+    /// Takes the head letter of an actor, and leaves it in this state.
     fn step(&mut self, actor: u64, state: Option<u32>)
         requires { IsTrue (is_given self.old.office actor) }
         ensures machines { self.new.machines ≡ self.old.machines }
         ensures office { self.new.office ≡ with_step self.old.office actor state }
     {
-        take_letter(&mut self.waiting, actor);
-        let seat = &mut self.seats[actor as usize - 1];
-        seat.state = state;
+        take_letter(&mut self.queue, actor);
+        let flat_actor = &mut self.flat_actors[actor as usize - 1];
+        flat_actor.state = state;
     }
 }
 
@@ -358,7 +377,7 @@ impl From<AllocError> for Refused {
     }
 }
 
-// The place of the machine with this id.
+/// The place of the machine with this id.
 fn machine_with(machines: &[FlatMachine], id: &[u8]) -> Option<usize>
     ensures { result ≡ machine_of machines.now id.now }
 {
@@ -367,15 +386,18 @@ fn machine_with(machines: &[FlatMachine], id: &[u8]) -> Option<usize>
         .position(|machine| machine.id.as_bytes() == id)
 }
 
-fn seat_of(seats: &[Seat], actor: u64) -> Option<&Seat>
-    ensures { option_copied result ≡ (if nat_lt 0 actor then slice_get seats.now (actor - 1) else None) }
+/// The actor of this number.
+fn flat_actor_of(flat_actors: &[FlatActor], actor: u64) -> Option<&FlatActor>
+    ensures { option_copied result
+        ≡ (if nat_lt 0 actor then slice_get flat_actors.now (actor - 1) else None) }
 {
     if actor == 0 {
         return None;
     }
-    seats.get(actor as usize - 1)
+    flat_actors.get(actor as usize - 1)
 }
 
+/// What is shown of an actor of this machine in this state.
 fn shown_state(machine: Option<&FlatMachine>, state: Option<u32>) -> FlatValue<'_>
     ensures shown { shown_as result ≡ shown_state (option_copied machine.entry) state }
     ensures text { IsTextShown result }
@@ -392,22 +414,22 @@ fn shown_state(machine: Option<&FlatMachine>, state: Option<u32>) -> FlatValue<'
     }
 }
 
-// The letter at the front of the queue.
-fn oldest(letters: &VecDeque<Waiting>) -> Option<&Waiting>
+/// The letter at the front of the queue.
+fn oldest(letters: &VecDeque<QueuedLetter>) -> Option<&QueuedLetter>
     ensures { option_copied result ≡ slice_get letters.now.items 0 }
 {
     letters.front()
 }
 
-// The first letter of an actor in the queue.
-fn first_letter(letters: &VecDeque<Waiting>, actor: u64) -> Option<&Waiting>
+/// The first letter of an actor in the queue.
+fn first_letter(letters: &VecDeque<QueuedLetter>, actor: u64) -> Option<&QueuedLetter>
     ensures { option_copied result ≡ find (λ letter. nat_eq letter.actor actor) letters.now.items }
 {
     letters.iter().find(|letter| letter.actor == actor)
 }
 
-// Takes the first letter of an actor out of the queue.
-fn take_letter(letters: &mut VecDeque<Waiting>, actor: u64)
+/// Takes the first letter of an actor out of the queue.
+fn take_letter(letters: &mut VecDeque<QueuedLetter>, actor: u64)
     ensures items { letters.new.items ≡ without_first actor letters.old.items }
     ensures capacity { deque_capacity letters.new ≡ deque_capacity letters.old }
 {
@@ -416,22 +438,28 @@ fn take_letter(letters: &mut VecDeque<Waiting>, actor: u64)
     }
 }
 
-// Where the first letter of an actor stands in the queue.
-fn first_place(letters: &VecDeque<Waiting>, actor: u64) -> Option<usize>
+/// Where the first letter of an actor stands in the queue.
+fn first_place(letters: &VecDeque<QueuedLetter>, actor: u64) -> Option<usize>
     ensures { result ≡ position (λ letter. nat_eq letter.actor actor) letters.now.items }
 {
     letters.iter().position(|letter| letter.actor == actor)
 }
 
-// The state that an actor is in after an event.
-fn state_behind(machines: &FlatMachines, seats: &[Seat], actor: u64, event: &Event) -> Option<u32>
-    ensures { result ≡ moved_seat machines.now seats.now actor event.now }
+/// The state that an actor is in after an event.
+fn state_behind(
+    machines: &FlatMachines,
+    flat_actors: &[FlatActor],
+    actor: u64,
+    event: &Event,
+) -> Option<u32>
+    ensures { result ≡ state_behind machines.now flat_actors.now actor event.now }
 {
-    let seat = seat_of(seats, actor)?;
-    let machine = machines.get(seat.machine)?;
-    next_state(machine, seat.state, event)
+    let flat_actor = flat_actor_of(flat_actors, actor)?;
+    let machine = machines.get(flat_actor.machine)?;
+    next_state(machine, flat_actor.state, event)
 }
 
+/// The state of a machine after an event.
 fn next_state(machine: &FlatMachine, state: Option<u32>, event: &Event) -> Option<u32>
     ensures { result ≡ next_state machine.now state event.now }
 {
@@ -441,6 +469,7 @@ fn next_state(machine: &FlatMachine, state: Option<u32>, event: &Event) -> Optio
     }
 }
 
+/// Where an event of this type leads from a state.
 fn state_after(machine: &FlatMachine, place: u32, event: &[u8]) -> u32
     ensures { result ≡ state_after machine.now place event.now }
 {
@@ -448,12 +477,12 @@ fn state_after(machine: &FlatMachine, place: u32, event: &[u8]) -> u32
         return place;
     };
     match state
-        .moves
+        .transitions
         .as_slice()
         .iter()
-        .find(|way| way.descriptor.as_bytes() == event)
+        .find(|transition| transition.descriptor.as_bytes() == event)
     {
-        Some(way) => way.state,
+        Some(transition) => transition.state,
         None => place,
     }
 }

@@ -1,6 +1,8 @@
+//! Where the keys of an object stand among its members.
+
 ghost use Rattle.std.specs.Prelude.{◌≡◌, map, IfOk};
 ghost use Rattle.ordered_json.specs.Words.{member_parts};
-ghost use Rattle.office_core.specs.FlatText.{keys_of, place_of_state};
+ghost use Rattle.office_core.specs.FlatText.{member_keys, place_of_state};
 
 use ordered_json::Member;
 use std::alloc::{AllocError, Global};
@@ -19,22 +21,23 @@ impl<'a> Model for Places<'a> {
     ghost use Rattle.std.specs.BTreeMap.{get_by_text};
     ghost use Rattle.std.specs.Coded.{coded_ℕ, coded_list};
     ghost use Rattle.ordered_json.specs.Words.{member_parts};
-    ghost use Rattle.office_core.specs.FlatText.{keys_of, place_of_state};
+    ghost use Rattle.office_core.specs.FlatText.{member_keys, place_of_state};
 
     ghost Value = { List (List ℕ) };
 
     ghost coded = { coded_list (coded_list coded_ℕ) };
 
-    ghost view = { λ p. keys_of (map member_parts p.members.now) };
+    ghost view = { λ p. member_keys (map member_parts p.members.now) };
 
-    ghost invariant = { λ p. (key : List ℕ) → get_by_text p.places key ≡ place_of_state (keys_of (map member_parts p.members.now)) key };
+    ghost invariant = { λ p. (key : List ℕ) →
+        get_by_text p.places key ≡ place_of_state (member_keys (map member_parts p.members.now)) key };
 }
 
 impl<'a> Places<'a> {
     /// The places of the members' keys. It takes memory for a copy of each key. A place that 32 bits don't hold is want of
     /// memory.
     pub fn of(alloc: Global, members: &'a [Member]) -> Result<Places<'a>, AllocError>
-        ensures { IfOk result (λ places. places ≡ keys_of (map member_parts members.now)) }
+        ensures { IfOk result (λ places. places ≡ member_keys (map member_parts members.now)) }
     {
         let mut places = BTreeMap::new(alloc);
         for (place, member) in members.iter().enumerate() {

@@ -1,4 +1,18 @@
+//! What a caller asks for, and the reply that it gets.
+
 use xs_data::Text;
+
+/// The status of a reply: what was asked for is done.
+pub const STATUS_OK: u16 = 200;
+
+/// The status of a reply: an actor was made.
+pub const STATUS_CREATED: u16 = 201;
+
+/// The status of a reply: a letter waits in a mailbox.
+pub const STATUS_ACCEPTED: u16 = 202;
+
+/// The status of a reply: what the request names isn't there.
+pub const STATUS_NOT_FOUND: u16 = 404;
 
 /// What a caller asks for.
 #[derive(Debug, Drop)]
@@ -25,7 +39,7 @@ pub enum Word {
     Machine,
 }
 
-/// The reply to a request: an HTTP status, and a value with the word that says what it is.
+/// The reply to a request: a status, which is one of HTTP's, and a value with the word that says what it is.
 #[derive(Clone, Copy, Debug, PartialEq, Eq)]
 pub struct Reply {
     pub status: u16,

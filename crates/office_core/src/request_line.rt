@@ -1,9 +1,12 @@
-ghost use Rattle.std.specs.Prelude.{◌≡◌, ◌≤◌, ◌↔◌, ◌==◌, ◌||◌, All, position, MatchResult, IsTrue, option_and_then};
+//! The reader of a line that is a request.
+
+ghost use Rattle.std.specs.Prelude.{◌≡◌, ◌<◌, ◌↔◌, ◌==◌, All, position, MatchResult, IsTrue, option_and_then};
 ghost use Rattle.std.specs.Option.{option_copied};
 ghost use Rattle.std.specs.List.{list_all};
+ghost use Rattle.xs_data.specs.Ascii.{space};
 ghost use Rattle.ordered_json.specs.Words.{members_of};
 ghost use Rattle.office_core.specs.LineParts.{IsCut, begins_number, is_spaceless, IsNumber, IsNameText, IsCallerText, IsStart, IsSend};
-ghost use Rattle.office_core.specs.RequestLine.{Reads, IsAsk, IsEvent, IsRequest, is_caller, is_sendable, is_caller_byte, type_in};
+ghost use Rattle.office_core.specs.RequestLine.{ReadsLine, IsAsk, IsEvent, IsRequest, is_caller, is_sendable, is_caller_byte, type_in};
 
 use crate::json_words::text_of;
 use crate::request::{Ask, Request};
@@ -48,16 +51,16 @@ impl From<JsonFault> for LineFault {
 }
 
 /// The longest line, in bytes, its line feed left out.
-const MAX_LINE: usize = 65_536;
+pub const MAX_LINE: usize = 65_536;
 
 /// The longest name, in bytes.
-const MAX_NAME: usize = 256;
+pub const MAX_NAME: usize = 256;
 
-/// How many bytes may follow the first one of a caller.
-const MAX_CALLER_TAIL: usize = 63;
+/// The longest caller, in bytes.
+pub const MAX_CALLER: usize = 64;
 
 /// The longest event, in bytes of its compact text.
-const MAX_EVENT: u64 = 4096;
+pub const MAX_EVENT: u64 = 4_096;
 
 /// The bytes of `{"type":` and `}`, which stand round an event's type.
 const AROUND_TYPE: u64 = 9;
@@ -67,7 +70,7 @@ const AROUND_TYPE: u64 = 9;
 /// whose one member is `type`, a text. That text doesn't begin with `xstate.`, and the object's compact text has at most
 /// 4,096 bytes. The cost is linear in the line.
 pub fn read_request(alloc: Global, line: &[u8]) -> Result<Request, LineFault>
-    ensures { Reads (IsRequest line.now) result }
+    ensures { ReadsLine (IsRequest line.now) result }
 {
     if line.len() > MAX_LINE {
         return Err(LineFault::NotALine);
@@ -87,9 +90,9 @@ pub fn read_request(alloc: Global, line: &[u8]) -> Result<Request, LineFault>
     })
 }
 
-// What is asked for.
+/// What is asked for.
 fn read_ask(alloc: Global, text: &[u8]) -> Result<Ask, LineFault>
-    ensures { Reads (IsAsk text.now) result }
+    ensures { ReadsLine (IsAsk text.now) result }
 {
     let (word, rest) = cut(text)?;
     if word == b"start".as_slice() {
@@ -103,9 +106,9 @@ fn read_ask(alloc: Global, text: &[u8]) -> Result<Ask, LineFault>
     Err(LineFault::NotALine)
 }
 
-// The id of the machine, behind the word `start`.
+/// The id of the machine, behind the word `start`.
 fn read_start(alloc: Global, bytes: &[u8]) -> Result<Text, LineFault>
-    ensures { Reads (IsStart bytes.now) result }
+    ensures { ReadsLine (IsStart bytes.now) result }
 {
     let (machine, rest) = cut(bytes)?;
     if rest != b"- null".as_slice() {
@@ -114,9 +117,9 @@ fn read_start(alloc: Global, bytes: &[u8]) -> Result<Text, LineFault>
     read_name(alloc, machine)
 }
 
-// The actor and the type of the event, behind the word `send`.
+/// The actor and the type of the event, behind the word `send`.
 fn read_send(alloc: Global, bytes: &[u8]) -> Result<(u64, Text), LineFault>
-    ensures { Reads (IsSend bytes.now) result }
+    ensures { ReadsLine (IsSend bytes.now) result }
 {
     let (actor, json) = cut(bytes)?;
     let actor = read_number(actor)?;
@@ -124,9 +127,9 @@ fn read_send(alloc: Global, bytes: &[u8]) -> Result<(u64, Text), LineFault>
     Ok((actor, event))
 }
 
-// The type of the event that the bytes mean.
+/// The type of the event that the bytes mean.
 fn read_event(alloc: Global, bytes: &[u8]) -> Result<Text, LineFault>
-    ensures { Reads (IsEvent bytes.now) result }
+    ensures { ReadsLine (IsEvent bytes.now) result }
 {
     ordered_json::laws::meaning_is_unique();
     let json = ordered_json::read(alloc, bytes)?;
@@ -139,7 +142,7 @@ fn read_event(alloc: Global, bytes: &[u8]) -> Result<Text, LineFault>
     Ok(kind.copy(alloc)?)
 }
 
-// The text of an object whose one member is `type`, a text.
+/// The text of an object whose one member is `type`, a text.
 fn type_of(json: &OrderedJson) -> Option<&Text>
     ensures { option_copied result ≡ option_and_then type_in (members_of json.now) }
 {
@@ -155,7 +158,7 @@ fn type_of(json: &OrderedJson) -> Option<&Text>
     text_of(&member.value)
 }
 
-// Whether an event of this type may be sent: it isn't too long, and its type isn't one of the machines' own.
+/// Whether an event of this type may be sent: it isn't too long, and its type isn't one of the machines' own.
 fn is_sendable(kind: &[u8]) -> bool
     ensures { result ≡ is_sendable kind.now }
 {
@@ -163,9 +166,9 @@ fn is_sendable(kind: &[u8]) -> bool
         && !kind.starts_with(b"xstate.".as_slice())
 }
 
-// The name that the bytes are.
+/// The name that the bytes are.
 fn read_name(alloc: Global, bytes: &[u8]) -> Result<Text, LineFault>
-    ensures { Reads (IsNameText bytes.now) result }
+    ensures { ReadsLine (IsNameText bytes.now) result }
 {
     if bytes.is_empty() || bytes.len() > MAX_NAME || !is_visible(bytes) {
         return Err(LineFault::NotALine);
@@ -176,16 +179,16 @@ fn read_name(alloc: Global, bytes: &[u8]) -> Result<Text, LineFault>
     Ok(Text::from_str(alloc, name)?)
 }
 
-// Whether no space is among the bytes, and no byte below it.
+/// Whether no space is among the bytes, and no byte below it.
 fn is_visible(bytes: &[u8]) -> bool
-    ensures { IsTrue result ↔ All (λ b. 33 ≤ b) bytes.now }
+    ensures { IsTrue result ↔ All (λ b. space < b) bytes.now }
 {
     bytes.iter().all(|byte| *byte > b' ')
 }
 
-// The caller that the bytes are.
+/// The caller that the bytes are.
 fn read_caller(alloc: Global, bytes: &[u8]) -> Result<Text, LineFault>
-    ensures { Reads (IsCallerText bytes.now) result }
+    ensures { ReadsLine (IsCallerText bytes.now) result }
 {
     if !is_caller(bytes) {
         return Err(LineFault::NotALine);
@@ -196,16 +199,17 @@ fn read_caller(alloc: Global, bytes: &[u8]) -> Result<Text, LineFault>
     Ok(Text::from_str(alloc, caller)?)
 }
 
+/// Whether the bytes are a caller.
 fn is_caller(bytes: &[u8]) -> bool
     ensures { result ≡ is_caller bytes.now }
 {
     let [first, rest @ ..] = bytes else {
         return false;
     };
-    first.is_ascii_lowercase() && rest.len() <= MAX_CALLER_TAIL && are_caller_bytes(rest)
+    first.is_ascii_lowercase() && rest.len() < MAX_CALLER && are_caller_bytes(rest)
 }
 
-// Whether each byte is one that may follow the first one of a caller.
+/// Whether each byte is one that may follow the first one of a caller.
 fn are_caller_bytes(bytes: &[u8]) -> bool
     ensures { result ≡ list_all is_caller_byte bytes.now }
 {
@@ -214,9 +218,9 @@ fn are_caller_bytes(bytes: &[u8]) -> bool
         .all(|byte| matches!(byte, b'a'..=b'z' | b'0'..=b'9' | b'-'))
 }
 
-// The number that the bytes spell in decimal, with no leading zero.
+//// The number that the bytes spell in decimal, with no leading zero.
 pub fn read_number(bytes: &[u8]) -> Result<u64, LineFault>
-    ensures { Reads (IsNumber bytes.now) result }
+    ensures { ReadsLine (IsNumber bytes.now) result }
 {
     // `parse` would take a plus and leading zeros.
     if !begins_number(bytes) {
@@ -231,7 +235,7 @@ pub fn read_number(bytes: &[u8]) -> Result<u64, LineFault>
     Ok(number)
 }
 
-// Whether a digit stands first, which is no 0 where another byte follows.
+/// Whether a digit stands first, which is no 0 where another byte follows.
 fn begins_number(bytes: &[u8]) -> bool
     ensures { result ≡ begins_number bytes.now }
 {
@@ -242,9 +246,11 @@ fn begins_number(bytes: &[u8]) -> bool
     }
 }
 
-// What stands before the first space, and what stands after it.
+/// What stands before the first space, and what stands after it.
 fn cut(bytes: &[u8]) -> Result<(&[u8], &[u8]), LineFault>
-    ensures { MatchResult result (λ parts. IsCut bytes.now parts.0.now parts.1.now) (λ fault. (fault ≡ LineFault.NotALine) × IsTrue (is_spaceless bytes.now)) }
+    ensures { MatchResult result
+        (λ parts. IsCut bytes.now parts.0.now parts.1.now)
+        (λ fault. (fault ≡ LineFault.NotALine) × IsTrue (is_spaceless bytes.now)) }
 {
     let Some(place) = first_space(bytes) else {
         return Err(LineFault::NotALine);
@@ -252,9 +258,9 @@ fn cut(bytes: &[u8]) -> Result<(&[u8], &[u8]), LineFault>
     Ok((&bytes[..place], &bytes[place + 1..]))
 }
 
-// Where the first space stands.
+/// Where the first space stands.
 fn first_space(bytes: &[u8]) -> Option<usize>
-    ensures { result ≡ position (λ b. b == 32) bytes.now }
+    ensures { result ≡ position (λ b. b == space) bytes.now }
 {
     bytes.iter().position(|byte| *byte == b' ')
 }

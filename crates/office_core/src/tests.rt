@@ -1,7 +1,7 @@
 //! Tables of calls on an office of toggles: each script stands beside the answers that it is to get.
 
 use crate::{
-    Ask, Claim, Core, FlatMachine, FlatState, FlatValue, Move, Request, StepRefused, Word,
+    Ask, Claim, Core, FlatMachine, FlatState, FlatTransition, FlatValue, Request, StepRefused, Word,
 };
 use std::alloc::Global;
 use std::test::Fail;
@@ -17,15 +17,15 @@ enum Line<'a> {
 }
 
 fn toggle_state(alloc: Global, key: &str, target: u32) -> Result<FlatState, Fail> {
-    let mut moves = Items::new(alloc);
-    let flip = Move {
+    let mut transitions = Items::new(alloc);
+    let flip = FlatTransition {
         descriptor: Text::from_str(alloc, "FLIP")?,
         state: target,
     };
-    moves.push(flip).ok().ok_or("memory")?;
+    transitions.push(flip).ok().ok_or("memory")?;
     Ok(FlatState {
         key: Text::from_str(alloc, key)?,
-        moves,
+        transitions,
     })
 }
 

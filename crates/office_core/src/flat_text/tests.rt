@@ -16,9 +16,9 @@ fn drawn(alloc: Global, machines: &FlatMachines) -> Result<String, AllocError> {
         for state in machine.states.as_slice() {
             let key = state.key.as_str();
             write!(text, "{key}(")?;
-            for way in state.moves.as_slice() {
-                let descriptor = way.descriptor.as_str();
-                let place = way.state;
+            for transition in state.transitions.as_slice() {
+                let descriptor = transition.descriptor.as_str();
+                let place = transition.state;
                 write!(text, "{descriptor}>{place},")?;
             }
             text.push_str(")")?;

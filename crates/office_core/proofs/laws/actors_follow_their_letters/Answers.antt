@@ -5,7 +5,7 @@ use Rattle.office_core.specs.Office.{Actor, empty_office, actor_of}
 use Rattle.office_core.specs.Runs.{Entry, after, sent_to}
 use Rattle.office_core.specs.Laws.{FollowsItsLetters, all_sent, all_taken}
 use Rattle.office_core.proofs.RunLemmas.{letters_of, item_of}
-use Rattle.office_core.proofs.LawLemmas.{no_actor, Runs, HasMachine, state_of, moved_by, letters-conserved, state-moves, has_machine, numbered, rise-run}
+use Rattle.office_core.proofs.LawLemmas.{no_actor, Runs, HasMachine, state_of, moved_by, letters-conserved, state-transitions, has_machine, numbered, rise-run}
 use Rattle.office_core.proofs.laws.actors_follow_their_letters.Goals as goal
 
 follows : (machines : List FlatMachine) (entries : List Entry) (number : ℕ) (actor : Option Actor) → actor_of (after machines empty_office entries) number ≡ actor → IfSome actor (FollowsItsLetters machines entries number)
@@ -19,7 +19,7 @@ follows machines entries number (Some actor) at =
     record {
       machine = found.0;
       machine_of = found.1;
-      state = ap state_of (sym at) ∙ state-moves machines number empty_office entries actor.machine found.0 found.1 runs ∙ ap (λ first. fold (moved_by found.0) (state_of first) taken) none;
+      state = ap state_of (sym at) ∙ state-transitions machines number empty_office entries actor.machine found.0 found.1 runs ∙ ap (λ first. fold (moved_by found.0) (state_of first) taken) none;
       letters = ap (λ last. taken ++ letters_of last) (sym at) ∙ sym (letters-conserved machines number empty_office entries) ∙ ap (λ first. letters_of first ++ all_sent machines entries number) none;
       order = rise-run machines (sent_to machines number) (numbered machines number) empty_office entries;
     }

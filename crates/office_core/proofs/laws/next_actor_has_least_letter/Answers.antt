@@ -2,7 +2,7 @@ use Rattle.std.proofs.Common.{◌≡◌, ℕ, zero, suc, ◌+◌, ◌-◌, ◌<�
 use Rattle.std.proofs.lemmas.Bool.Decides.{nat_tests}
 use Rattle.std.specs.Prelude.{slice_get, option_map, option_and_then}
 use Rattle.office_core.specs.declared.office.Claim.{Claim}
-use Rattle.office_core.specs.Office.{Actor, Office, head_of, earlier, least_head, first_ready}
+use Rattle.office_core.specs.Office.{Actor, Office, head_of, earlier_claim, least_head, first_ready}
 use Rattle.office_core.specs.Laws.{IsLeastHead}
 use Rattle.office_core.specs.Plan.{head_at}
 use Rattle.office_core.proofs.QueueLemmas.{by_test, none_some}
@@ -23,7 +23,7 @@ same e = cc
 
 -- of the first actor's head and the least of the others the lesser one is the least
 least_of : (first : ℕ) (actor : Actor) (actors : List Actor) (head : Option ℕ) (least : Option Claim) → head_of actor ≡ head → IsLeast (first + 1) actors least →
-    IsLeast first (actor ∷ actors) (earlier (option_map (λ letter. let claim : Claim = record { actor = first; letter = letter } in claim) head) least)
+    IsLeast first (actor ∷ actors) (earlier_claim (option_map (λ letter. let claim : Claim = record { actor = first; letter = letter } in claim) head) least)
 least_of first actor actors None None at others = λ place. by_place place
   where
     by_place : (place : ℕ) → head_in (actor ∷ actors) place ≡ None

@@ -2,7 +2,7 @@ use Rattle.std.proofs.Common.{◌<◌, sym, subst, arith}
 use Rattle.std.specs.Prelude.{decimal, Err}
 use Rattle.office_core.specs.declared.request_line.LineFault.{LineFault}
 use Rattle.office_core.specs.LineParts.{IsNumber, IsCallerText}
-use Rattle.office_core.specs.RequestLine.{Reads, IsAsk, IsRequest}
+use Rattle.office_core.specs.RequestLine.{ReadsLine, IsAsk, IsRequest}
 use Rattle.office_core.proofs.LineLemmas.{no_cut}
 use Rattle.office_core.proofs.RequestLemmas.{handed_on, refused_at, request_parts, behind_caller, same_number}
 use Rattle.office_core.proofs.request_line.read_request.Goals as goal
@@ -11,7 +11,7 @@ pub returns-in_err-number : goal.returns-in_err-number
 returns-in_err-number c =
     let behind = behind_caller c.args.line.now c.in_ok-caller.caller.now c.in_ok-caller.rest.now c.in_ok-caller.ensures in
     handed_on (IsRequest c.args.line.now) c.from_residual-in_err-number.result _ c.from_residual-in_err-number.ensures.1
-    (subst (λ (fault : LineFault). Reads (IsRequest c.args.line.now) (Err fault)) (sym c.in_err-number.ensures.0)
+    (subst (λ (fault : LineFault). ReadsLine (IsRequest c.args.line.now) (Err fault)) (sym c.in_err-number.ensures.0)
     (λ request is. no_cut c.in_ok-caller.rest.now (decimal request.number) is.ask c.in_err-number.ensures.1 (behind request is).1))
 
 pub returns-in_err-caller-2 : goal.returns-in_err-caller-2

@@ -5,8 +5,8 @@ use Rattle.office_core.proofs.office.Core.first_ready.Goals as goal
 pub returns-in_err-letter : goal.returns-in_err-letter
 returns-in_err-letter c =
     c.from_residual.ensures
-    ∙ rw (← c.self.view_is) (first_ready-none c.self.inside.seats.items c.self.inside.waiting.items c.self.inside.next_letter c.in_err-letter.ensures)
+    ∙ rw (← c.self.view_is) (first_ready-none c.self.inside.flat_actors.items c.self.inside.queue.items c.self.inside.next_letter c.in_err-letter.ensures)
 
 pub returns : goal.returns
 returns c =
-    rw (← c.self.view_is) (first_ready-some c.self.inside.seats.items c.self.inside.waiting.items c.self.inside.next_letter c.in_ok-letter.letter.now c.in_ok-letter.ensures c.self.invariant)
+    rw (← c.self.view_is) (first_ready-some c.self.inside.flat_actors.items c.self.inside.queue.items c.self.inside.next_letter c.in_ok-letter.letter.now c.in_ok-letter.ensures c.self.invariant)

@@ -4,4 +4,4 @@ use Rattle.office_core.proofs.QueueLemmas.{length-actors_from}
 use Rattle.office_core.proofs.office.Core.make_actor_room.Goals as goal
 
 pub returns-clause-ok : goal.returns-clause-ok
-returns-clause-ok c = grind (arith, common_steps, length-actors_from 1 c.reserve.new.self.items c.self.inside.waiting.items)
+returns-clause-ok c = grind (arith, common_steps, length-actors_from 1 c.reserve.new.self.items c.self.inside.queue.items)
