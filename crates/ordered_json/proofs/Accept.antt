@@ -6,8 +6,8 @@ use Rattle.ordered_json.specs.declared.level.Level.{Level}
 use Rattle.ordered_json.specs.declared.mode.Mode.{Mode}
 use Rattle.ordered_json.specs.declared.mode.Mode.TheVariants as mode
 use Rattle.ordered_json.specs.Grammar.{IsSpace}
-use Rattle.ordered_json.specs.Steps.{between, begin_value, step, in_word}
-use Rattle.ordered_json.specs.declared.mode.Word.TheVariants as word
+use Rattle.ordered_json.specs.Steps.{between, begin_value, take_byte, in_name, open_name}
+use Rattle.ordered_json.specs.declared.mode.LiteralName.TheVariants as literal
 use Rattle.ordered_json.proofs.Runs.{Answers, by_step, by_place}
 use Rattle.ordered_json.proofs.States.{state, Ready, finished, complete_ready, awaiting, blank_step}
 
@@ -19,10 +19,10 @@ dummy = tt
 
 -- a mode of a reader between tokens, whose step is `between`
 abbrev pub Waits : Mode → Type 0
-Waits m = (place b : ℕ) (ls : List Level) (o : Option OrderedJson) → step place b (state m ls o) ≡ between place b (state m ls o)
+Waits m = (place b : ℕ) (ls : List Level) (o : Option OrderedJson) → take_byte place b (state m ls o) ≡ between place b (state m ls o)
 
 pub awaiting_waits : (f : Bool) → Waits (awaiting f)
-unfolding step
+unfolding take_byte
 awaiting_waits true = λ place b ls o. refl
 awaiting_waits false = λ place b ls o. refl
 
@@ -33,16 +33,16 @@ spaces {m} w (b ∷ s) {p = p} {ls = ls} {o = o} h a =
 
 -- a name is read
 pub reads_null : (f : Bool) {p : ℕ} {rest : List ℕ} {ls : List Level} {o : Option OrderedJson} {x : Answer} → Ready ls → Answers (p + 4) rest (Ok (finished (Null p) ls o)) x → Answers p (110 ∷ 117 ∷ 108 ∷ 108 ∷ rest) (Ok (state (awaiting f) ls o)) x
-unfolding step between begin_value in_word
-reads_null true {p} {ls = ls} {o = o} h a = by_step refl (by_step refl (by_step refl (by_step (complete_ready (p + 1 + 1 + 1) (Null p) (mode.Word p word.Null 3) ls o h) (by_place {q = p + 4} (omega arith) a))))
-reads_null false {p} {ls = ls} {o = o} h a = by_step refl (by_step refl (by_step refl (by_step (complete_ready (p + 1 + 1 + 1) (Null p) (mode.Word p word.Null 3) ls o h) (by_place {q = p + 4} (omega arith) a))))
+unfolding take_byte between begin_value in_name
+reads_null true {p} {ls = ls} {o = o} h a = by_step refl (by_step refl (by_step refl (by_step (complete_ready (p + 1 + 1 + 1) (Null p) (mode.Name (open_name p literal.Null 3)) ls o h) (by_place {q = p + 4} (omega arith) a))))
+reads_null false {p} {ls = ls} {o = o} h a = by_step refl (by_step refl (by_step refl (by_step (complete_ready (p + 1 + 1 + 1) (Null p) (mode.Name (open_name p literal.Null 3)) ls o h) (by_place {q = p + 4} (omega arith) a))))
 
 pub reads_true : (f : Bool) {p : ℕ} {rest : List ℕ} {ls : List Level} {o : Option OrderedJson} {x : Answer} → Ready ls → Answers (p + 4) rest (Ok (finished (a_bool p true) ls o)) x → Answers p (116 ∷ 114 ∷ 117 ∷ 101 ∷ rest) (Ok (state (awaiting f) ls o)) x
-unfolding step between begin_value in_word
-reads_true true {p} {ls = ls} {o = o} h a = by_step refl (by_step refl (by_step refl (by_step (complete_ready (p + 1 + 1 + 1) (a_bool p true) (mode.Word p word.True 3) ls o h) (by_place {q = p + 4} (omega arith) a))))
-reads_true false {p} {ls = ls} {o = o} h a = by_step refl (by_step refl (by_step refl (by_step (complete_ready (p + 1 + 1 + 1) (a_bool p true) (mode.Word p word.True 3) ls o h) (by_place {q = p + 4} (omega arith) a))))
+unfolding take_byte between begin_value in_name
+reads_true true {p} {ls = ls} {o = o} h a = by_step refl (by_step refl (by_step refl (by_step (complete_ready (p + 1 + 1 + 1) (a_bool p true) (mode.Name (open_name p literal.True 3)) ls o h) (by_place {q = p + 4} (omega arith) a))))
+reads_true false {p} {ls = ls} {o = o} h a = by_step refl (by_step refl (by_step refl (by_step (complete_ready (p + 1 + 1 + 1) (a_bool p true) (mode.Name (open_name p literal.True 3)) ls o h) (by_place {q = p + 4} (omega arith) a))))
 
 pub reads_false : (f : Bool) {p : ℕ} {rest : List ℕ} {ls : List Level} {o : Option OrderedJson} {x : Answer} → Ready ls → Answers (p + 5) rest (Ok (finished (a_bool p false) ls o)) x → Answers p (102 ∷ 97 ∷ 108 ∷ 115 ∷ 101 ∷ rest) (Ok (state (awaiting f) ls o)) x
-unfolding step between begin_value in_word
-reads_false true {p} {ls = ls} {o = o} h a = by_step refl (by_step refl (by_step refl (by_step refl (by_step (complete_ready (p + 1 + 1 + 1 + 1) (a_bool p false) (mode.Word p word.False 4) ls o h) (by_place {q = p + 5} (omega arith) a)))))
-reads_false false {p} {ls = ls} {o = o} h a = by_step refl (by_step refl (by_step refl (by_step refl (by_step (complete_ready (p + 1 + 1 + 1 + 1) (a_bool p false) (mode.Word p word.False 4) ls o h) (by_place {q = p + 5} (omega arith) a)))))
+unfolding take_byte between begin_value in_name
+reads_false true {p} {ls = ls} {o = o} h a = by_step refl (by_step refl (by_step refl (by_step refl (by_step (complete_ready (p + 1 + 1 + 1 + 1) (a_bool p false) (mode.Name (open_name p literal.False 4)) ls o h) (by_place {q = p + 5} (omega arith) a)))))
+reads_false false {p} {ls = ls} {o = o} h a = by_step refl (by_step refl (by_step refl (by_step refl (by_step (complete_ready (p + 1 + 1 + 1 + 1) (a_bool p false) (mode.Name (open_name p literal.False 4)) ls o h) (by_place {q = p + 5} (omega arith) a)))))

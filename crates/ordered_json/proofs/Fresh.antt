@@ -4,7 +4,7 @@ use Rattle.std.specs.Prelude.{encode_utf8}
 use Rattle.std.specs.Str.{bytes_eq}
 use Rattle.std.proofs.lemmas.Slice.Eq.{bytes_eq-Decides}
 use Rattle.ordered_json.specs.Grammar.{Char, plain, AreChars, print_char, print_chars}
-use Rattle.ordered_json.specs.Meaning.{content, char_value, has_key}
+use Rattle.ordered_json.specs.Meaning.{string_content, char_value, has_key}
 use Rattle.ordered_json.proofs.Strings.{encode_one}
 
 longest : List (List ℕ) → ℕ
@@ -35,16 +35,16 @@ unfolding letters
 letters-are zero = tt
 letters-are (suc n) = ((refl, omega arith, refl, refl), letters-are n)
 
-letters-length : (n : ℕ) → length (content (letters n)) ≡ n
+letters-length : (n : ℕ) → length (string_content (letters n)) ≡ n
 unfolding letters
 letters-length zero = refl
 letters-length (suc n) =
     let one : length (encode_utf8 97) ≡ 1 = ap length (encode_one 97 refl) in
-    omega (arith, length-append (encode_utf8 97) (content (letters n)), letters-length n)
+    omega (arith, length-append (encode_utf8 97) (string_content (letters n)), letters-length n)
 
-pub content-append : (cs ds : List Char) → content (cs ++ ds) ≡ content cs ++ content ds
-content-append [] ds = refl
-content-append (c ∷ cs) ds = ap (λ w. encode_utf8 (char_value c) ++ w) (content-append cs ds) ∙ sym (append_assoc (encode_utf8 (char_value c)) (content cs) (content ds))
+pub string_content-append : (cs ds : List Char) → string_content (cs ++ ds) ≡ string_content cs ++ string_content ds
+string_content-append [] ds = refl
+string_content-append (c ∷ cs) ds = ap (λ w. encode_utf8 (char_value c) ++ w) (string_content-append cs ds) ∙ sym (append_assoc (encode_utf8 (char_value c)) (string_content cs) (string_content ds))
 
 pub print_chars-append : (cs ds : List Char) → print_chars (cs ++ ds) ≡ print_chars cs ++ print_chars ds
 print_chars-append [] ds = refl
@@ -58,10 +58,10 @@ are-append (c ∷ cs) ds h k = (h.0, are-append cs ds h.1 k)
 pub record Fresh (cs : List Char) (keys : List (List ℕ)) : Type 0 where
   pub more : List Char
   pub are : AreChars more
-  pub fresh : has_key (content (cs ++ more)) keys ≡ false
+  pub fresh : has_key (string_content (cs ++ more)) keys ≡ false
 
 pub fresh_after : (cs : List Char) (keys : List (List ℕ)) → Fresh cs keys
 fresh_after cs keys =
     let ds = letters (suc (longest keys)) in
-    let grown : length (content (cs ++ letters (suc (longest keys)))) ≡ length (content cs) + suc (longest keys) = ap length (content-append cs ds) ∙ (length-append (content cs) (content ds) ∙ ap (λ n. length (content cs) + n) (letters-length (suc (longest keys)))) in
-    record { more = ds; are = letters-are (suc (longest keys)); fresh = longer (content (cs ++ ds)) keys (omega arith) }
+    let grown : length (string_content (cs ++ letters (suc (longest keys)))) ≡ length (string_content cs) + suc (longest keys) = ap length (string_content-append cs ds) ∙ (length-append (string_content cs) (string_content ds) ∙ ap (λ n. length (string_content cs) + n) (letters-length (suc (longest keys)))) in
+    record { more = ds; are = letters-are (suc (longest keys)); fresh = longer (string_content (cs ++ ds)) keys (omega arith) }

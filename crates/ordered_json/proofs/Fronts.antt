@@ -5,8 +5,8 @@ use Rattle.std.proofs.lemmas.List.{map-append}
 use Rattle.ordered_json.specs.declared.json.Member.{Member}
 use Rattle.ordered_json.specs.declared.json.OrderedJson.{OrderedJson}
 use Rattle.ordered_json.specs.Words.{key_of, member_of}
-use Rattle.ordered_json.specs.Grammar.{Char, AreChars, IsSpace, print_string, Tree, Elements, element, Members, member, print, print_elements, print_members, lead, colon, IsTree, AreElements, AreMembers}
-use Rattle.ordered_json.specs.Meaning.{content, value_at, items_at, members_at, has_key, IsTaken, ElementsTaken, MembersTaken}
+use Rattle.ordered_json.specs.Grammar.{Char, AreChars, IsSpace, print_string, Tree, Elements, element, Members, member, print, print_elements, print_members, lead, key_end, IsTree, AreElements, AreMembers}
+use Rattle.ordered_json.specs.Meaning.{string_content, value_at, items_at, members_at, has_key, IsTaken, ElementsTaken, MembersTaken}
 use Rattle.ordered_json.proofs.Keys.{key_of-member_of}
 
 -- an element, after the white space that stands round its comma
@@ -86,7 +86,7 @@ comma_past (e ∷ es) = 44 ∷ []
 
 -- a member up to its value
 abbrev pub print_head : List ℕ → List ℕ → List ℕ → List Char → List ℕ → List ℕ → List ℕ
-print_head space comma space' key gap gap' = lead space comma space' ++ (print_string key ++ colon gap gap')
+print_head space comma space' key gap gap' = lead space comma space' ++ (print_string key ++ key_end gap gap')
 
 abbrev pub print_entries : List Entry → List ℕ
 print_entries [] = []
@@ -94,20 +94,20 @@ print_entries (e ∷ es) = print_entries es ++ (print_head e.space (comma_past e
 
 abbrev pub entry_keys : List Entry → List (List ℕ)
 entry_keys [] = []
-entry_keys (e ∷ es) = entry_keys es ++ content e.key ∷ []
+entry_keys (e ∷ es) = entry_keys es ++ string_content e.key ∷ []
 
 abbrev pub AreEntries : ℕ → List Entry → Type 0
 AreEntries depth [] = ⊤
 AreEntries depth (e ∷ es) =
     AreEntries depth es × (IsSpace e.space × IsSpace e.space' × AreChars e.key × IsSpace e.gap × IsSpace e.gap' × IsTree e.tree)
-    × (has_key (content e.key) (entry_keys es) ≡ false) × IsTaken depth e.tree
+    × (has_key (string_content e.key) (entry_keys es) ≡ false) × IsTaken depth e.tree
 
 abbrev pub key_place : ℕ → List Entry → List ℕ → List ℕ → ℕ
 key_place p es space space' = p + length (print_entries es ++ lead space (comma_past es) space')
 
 abbrev pub entry_member : ℕ → List Entry → Entry → Member
 entry_member p es e =
-    member_of (content e.key) (key_place p es e.space e.space')
+    member_of (string_content e.key) (key_place p es e.space e.space')
     (value_at (p + length (print_entries es ++ print_head e.space (comma_past es) e.space' e.key e.gap e.gap')) e.tree)
 
 abbrev pub entry_values : ℕ → List Entry → List Member
@@ -123,7 +123,7 @@ keys-entries p [] = refl
 keys-entries p (e ∷ es) =
     map-append key_of (entry_values p es) (entry_member p es e ∷ [])
     ∙ (ap (λ ks. ks ++ map key_of (entry_member p es e ∷ [])) (keys-entries p es)
-    ∙ ap (λ k. entry_keys es ++ k ∷ []) (key_of-member_of (content e.key) (key_place p es e.space e.space') (value_at (p + length (print_entries es ++ print_head e.space (comma_past es) e.space' e.key e.gap e.gap')) e.tree)))
+    ∙ ap (λ k. entry_keys es ++ k ∷ []) (key_of-member_of (string_content e.key) (key_place p es e.space e.space') (value_at (p + length (print_entries es ++ print_head e.space (comma_past es) e.space' e.key e.gap e.gap')) e.tree)))
 
 head_bytes : (front key gap body back : List ℕ) → (front ++ (key ++ gap)) ++ (body ++ back) ≡ front ++ (key ++ (gap ++ (body ++ back)))
 head_bytes front key gap body back = append_assoc front (key ++ gap) (body ++ back) ∙ ap (λ w. front ++ w) (append_assoc key gap (body ++ back))
@@ -134,7 +134,7 @@ print-close_members (e ∷ es) ms =
     print-close_members es (member e.space e.space' e.key e.gap e.gap' e.tree ms)
     ∙ sym (append_assoc (print_entries es) (print_head e.space (comma_past es) e.space' e.key e.gap e.gap' ++ print e.tree) (print_members (44 ∷ []) ms)
     ∙ ap (λ w. print_entries es ++ w) (append_assoc (print_head e.space (comma_past es) e.space' e.key e.gap e.gap') (print e.tree) (print_members (44 ∷ []) ms)
-    ∙ head_bytes (lead e.space (comma_past es) e.space') (print_string e.key) (colon e.gap e.gap') (print e.tree) (print_members (44 ∷ []) ms)))
+    ∙ head_bytes (lead e.space (comma_past es) e.space') (print_string e.key) (key_end e.gap e.gap') (print e.tree) (print_members (44 ∷ []) ms)))
 
 pub are-close_members : (depth : ℕ) (es : List Entry) (ms : Members) → AreEntries depth es → AreMembers ms → AreMembers (close_members es ms)
 are-close_members depth [] ms h m = m
@@ -148,13 +148,13 @@ pub values-close_members : (p : ℕ) (es : List Entry) (ms : Members) → member
 values-close_members p [] ms = ap (λ n. members_at n [] ms) (let e : p ≡ p + 0 = omega arith in e)
 values-close_members p (e ∷ es) ms =
     values-close_members p es (member e.space e.space' e.key e.gap e.gap' e.tree ms)
-    ∙ (ap (λ n. entry_values p es ++ (member_of (content e.key) n (value_at (n + gap) e.tree) ∷ members_at (n + gap + length (print e.tree)) (44 ∷ []) ms)) start
-    ∙ (ap (λ n. entry_values p es ++ (member_of (content e.key) (key_place p es e.space e.space') (value_at n e.tree) ∷ members_at (n + length (print e.tree)) (44 ∷ []) ms)) middle
+    ∙ (ap (λ n. entry_values p es ++ (member_of (string_content e.key) n (value_at (n + gap) e.tree) ∷ members_at (n + gap + length (print e.tree)) (44 ∷ []) ms)) start
+    ∙ (ap (λ n. entry_values p es ++ (member_of (string_content e.key) (key_place p es e.space e.space') (value_at n e.tree) ∷ members_at (n + length (print e.tree)) (44 ∷ []) ms)) middle
     ∙ (ap (λ n. entry_values p es ++ (entry_member p es e ∷ members_at n (44 ∷ []) ms)) end
     ∙ sym (append_assoc (entry_values p es) (entry_member p es e ∷ []) (members_at (p + length (print_entries (e ∷ es))) (44 ∷ []) ms)))))
   where
     gap : ℕ
-    gap = length (print_string e.key ++ colon e.gap e.gap')
+    gap = length (print_string e.key ++ key_end e.gap e.gap')
 
     before : ℕ
     before = p + length (print_entries es ++ print_head e.space (comma_past es) e.space' e.key e.gap e.gap')
@@ -162,8 +162,8 @@ values-close_members p (e ∷ es) ms =
     start : p + length (print_entries es) + length (lead e.space (comma_past es) e.space') ≡ key_place p es e.space e.space'
     start = omega (arith, length-append (print_entries es) (lead e.space (comma_past es) e.space'))
 
-    middle : key_place p es e.space e.space' + length (print_string e.key ++ colon e.gap e.gap') ≡ p + length (print_entries es ++ print_head e.space (comma_past es) e.space' e.key e.gap e.gap')
-    middle = omega (arith, length-append (print_entries es) (lead e.space (comma_past es) e.space'), length-append (print_entries es) (print_head e.space (comma_past es) e.space' e.key e.gap e.gap'), length-append (lead e.space (comma_past es) e.space') (print_string e.key ++ colon e.gap e.gap'))
+    middle : key_place p es e.space e.space' + length (print_string e.key ++ key_end e.gap e.gap') ≡ p + length (print_entries es ++ print_head e.space (comma_past es) e.space' e.key e.gap e.gap')
+    middle = omega (arith, length-append (print_entries es) (lead e.space (comma_past es) e.space'), length-append (print_entries es) (print_head e.space (comma_past es) e.space' e.key e.gap e.gap'), length-append (lead e.space (comma_past es) e.space') (print_string e.key ++ key_end e.gap e.gap'))
 
     end : p + length (print_entries es ++ print_head e.space (comma_past es) e.space' e.key e.gap e.gap') + length (print e.tree) ≡ p + length (print_entries (e ∷ es))
     end = omega (arith, length-append (print_entries es) (print_head e.space (comma_past es) e.space' e.key e.gap e.gap'), length-append (print_entries es) (print_head e.space (comma_past es) e.space' e.key e.gap e.gap' ++ print e.tree), length-append (print_head e.space (comma_past es) e.space' e.key e.gap e.gap') (print e.tree))

@@ -1,4 +1,5 @@
 -- Each byte keeps what the text looks like, or makes a fault that the text has.
+use Rattle.ordered_json.specs.declared.TheConstants.{MAX_LEVELS}
 use Rattle.ordered_json.specs.declared.json.Member.{Member}
 use Rattle.ordered_json.specs.declared.json.OrderedJson.{OrderedJson, List as a_list, Object}
 use Rattle.ordered_json.specs.declared.level.Level.{Level}
@@ -7,10 +8,10 @@ use Rattle.ordered_json.specs.declared.mode.Mode.{Mode}
 use Rattle.ordered_json.specs.declared.mode.Mode.TheVariants as mode
 use Rattle.ordered_json.specs.declared.reader.Reader.{Reader}
 use Rattle.ordered_json.specs.Grammar.{is_blank, Char, AreChars, IsSpace, Tree, null, print, IsTree}
-use Rattle.ordered_json.specs.Meaning.{content, value_at, max_depth, IsTaken}
+use Rattle.ordered_json.specs.Meaning.{string_content, value_at, IsTaken}
 use Rattle.ordered_json.proofs.States.{state, finished}
 use Rattle.ordered_json.proofs.Reached.{KeyAwaits, ColonAwaits, Awaits, space-snoc, snoc-two, awaits-ready, faultless-front, faultless-is, plug}
-use Rattle.std.proofs.Common.{◌≡◌, [], ◌∷◌, ◌++◌, ℕ, ◌+◌, ◌-◌, ◌<◌, Bool, true, false, cond, ◌||◌, ◌&&◌, ◌==◌, ◌⊎◌, inl, inr, List, length, take, drop, Some, None, Result, Ok, Err, fold, refl, ap, sym, ◌∙◌, arith, subst, append_assoc, append-nil, length-append}
+use Rattle.std.proofs.Common.{◌≡◌, [], ◌∷◌, ◌++◌, ℕ, ◌+◌, ◌-◌, ◌<◌, ◌≤◌, Bool, true, false, cond, ◌||◌, ◌&&◌, ◌==◌, ◌⊎◌, inl, inr, List, length, take, drop, Some, None, Result, Ok, Err, fold, refl, ap, sym, ◌∙◌, arith, subst, append_assoc, append-nil, length-append}
 use Rattle.std.specs.Prelude.{nat_lt}
 use Rattle.std.proofs.Math.Seq.{take-append_seam, drop-append_seam}
 use Rattle.std.proofs.lemmas.List.{take_more, take_all, take-append-drop}
@@ -20,12 +21,12 @@ use Rattle.ordered_json.specs.declared.fault.JsonFault.TheVariants.{Syntax, Doub
 use Rattle.ordered_json.specs.declared.json.OrderedJson.{Int}
 use Rattle.ordered_json.specs.declared.mode.Spelling.{Spelling}
 use Rattle.ordered_json.specs.declared.mode.Spelling.TheVariants as at
-use Rattle.ordered_json.specs.declared.mode.Word.{Word}
-use Rattle.ordered_json.specs.declared.mode.Word.TheVariants as word
+use Rattle.ordered_json.specs.declared.mode.LiteralName.{LiteralName}
+use Rattle.ordered_json.specs.declared.mode.LiteralName.TheVariants as literal
 use Rattle.ordered_json.specs.Grammar.{is_decimal, AreDigits, IsWhole, signed, print_chars, boolean, number}
 use Rattle.ordered_json.specs.Meaning.{magnitude, int_value, fits}
 use Rattle.ordered_json.specs.Faults.{BeginsFaultless, AwaitsValue, HasDoubleKey, HasNumber, HasFraction, IsOutOfRange, IsTooDeep, is_mark}
-use Rattle.ordered_json.specs.Steps.{Outcome, complete, open_level, close_list, close_object, between, begin_value, begin_key, scalar_mode, go, go_if, in_word, next, end_number, after_digits, after_minus, and_then, word_text, word_value, letter_at}
+use Rattle.ordered_json.specs.Steps.{Reading, complete, open_level, close_list, close_object, between, begin_value, begin_key, scalar_mode, go, go_if, in_name, take_comma, end_number, after_digits, after_minus, and_then, literal_letters, literal_value, letter_at, name_mode, number_mode, open_name, open_number, text_mode}
 use Rattle.ordered_json.proofs.States.{complete_ready}
 use Rattle.ordered_json.proofs.Numbers.{sat, grow, small_digit, number_taken, number_refused}
 use Rattle.ordered_json.proofs.Strings.{below}
@@ -38,18 +39,18 @@ pub record FirstOf (bracket : ℕ) (ls : List Level) (p : ℕ) (text : List ℕ)
   pub outer : List ℕ
   pub stands : Awaits ls outer
   pub place : p ≡ length outer
-  pub room : length ls < max_depth
+  pub room : length ls < MAX_LEVELS
   pub space : List ℕ
   pub white : IsSpace space
   pub printed : text ≡ outer ++ bracket ∷ space
 
 -- the first letters of a name
-pub record WordText (ls : List Level) (p : ℕ) (w : Word) (n : ℕ) (text : List ℕ) : Type 0 where
+pub record NameText (ls : List Level) (p : ℕ) (w : LiteralName) (n : ℕ) (text : List ℕ) : Type 0 where
   pub before : List ℕ
   pub stands : Awaits ls before
   pub place : p ≡ length before
-  pub short : n < length (word_text w)
-  pub printed : text ≡ before ++ take n (word_text w)
+  pub short : n < length (literal_letters w)
+  pub printed : text ≡ before ++ take n (literal_letters w)
 
 -- the sign and the first digits of a number
 pub record NumberText (ls : List Level) (p : ℕ) (minus : Bool) (ds : List ℕ) (text : List ℕ) : Type 0 where
@@ -65,7 +66,7 @@ pub record StringText (awaited : List ℕ → Type 0) (p : ℕ) (s : Spelling) (
   pub place : p ≡ length before
   pub chars : List Char
   pub are : AreChars chars
-  pub content_is : c ≡ content chars
+  pub content_is : c ≡ string_content chars
   pub spelling : IsSpelling s
   pub printed : text ≡ before ++ 34 ∷ (print_chars chars ++ spelled_bytes s)
 
@@ -77,10 +78,10 @@ pub data Reached (text : List ℕ) : Reader → Type 0 where
   r_key : {ls : List Level} {p : ℕ} {members : List Member} → KeyAwaits (Awaits ls) (length ls) p members text → Reached text (state mode.Key (level.Object p members ∷ ls) None)
   r_colon : {ls : List Level} {p : ℕ} {members : List Member} {key : List ℕ} {key_at : ℕ} → ColonAwaits (Awaits ls) (length ls) p members key key_at text → Reached text (state mode.Colon (level.Member p members key key_at ∷ ls) None)
   r_after : {r : Reader} → AfterValue text r → Reached text r
-  r_word : {ls : List Level} {p : ℕ} {w : Word} {n : ℕ} → WordText ls p w n text → Reached text (state (mode.Word p w n) ls None)
+  r_name : {ls : List Level} {p : ℕ} {w : LiteralName} {n : ℕ} → NameText ls p w n text → Reached text (state (mode.Name (open_name p w n)) ls None)
   r_minus : {ls : List Level} {p : ℕ} → NumberText ls p true [] text → Reached text (state (mode.Minus p) ls None)
-  r_zero : {ls : List Level} {p : ℕ} {minus : Bool} → NumberText ls p minus (48 ∷ []) text → Reached text (state (mode.Zero p minus) ls None)
-  r_digits : {ls : List Level} {p : ℕ} {minus : Bool} (d : ℕ) (ds : List ℕ) → NumberText ls p minus (d ∷ ds) text → d == 48 ≡ false → AreDigits (d ∷ ds) → Reached text (state (mode.Digits p minus (sat (magnitude (d ∷ ds)))) ls None)
+  r_zero : {ls : List Level} {p : ℕ} {minus : Bool} → NumberText ls p minus (48 ∷ []) text → Reached text (state (mode.Zero (open_number p minus 0)) ls None)
+  r_digits : {ls : List Level} {p : ℕ} {minus : Bool} (d : ℕ) (ds : List ℕ) → NumberText ls p minus (d ∷ ds) text → d == 48 ≡ false → AreDigits (d ∷ ds) → Reached text (state (mode.Digits (open_number p minus (sat (magnitude (d ∷ ds))))) ls None)
   r_text : {ls : List Level} {p : ℕ} {s : Spelling} {c : List ℕ} → StringText (Awaits ls) p s c text → Reached text (text_state p false s ls None c)
   r_key_text : {ls : List Level} {q : ℕ} {members : List Member} {p : ℕ} {s : Spelling} {c : List ℕ} → StringText (KeyAwaits (Awaits ls) (length ls) q members) p s c text → Reached text (text_state p true s (level.Object q members ∷ ls) None c)
 
@@ -94,16 +95,16 @@ Shows text b (TooDeep p) = (rest : List ℕ) → (BeginsFaultless (text ++ b ∷
 Shows text b TooLong = ⊥
 Shows text b Memory = ⊥
 
-abbrev pub Judges : List ℕ → ℕ → Outcome → Type 0
+abbrev pub Judges : List ℕ → ℕ → Reading → Type 0
 Judges text b (Ok r) = Reached (text ++ b ∷ []) r
 Judges text b (Err fault) = Shows text b fault
 
-pub test_judged : (text : List ℕ) (b : ℕ) (x y : Outcome) (t : Bool) → (t ≡ true → Judges text b x) → (t ≡ false → Judges text b y) → Judges text b (cond t x y)
+pub test_judged : (text : List ℕ) (b : ℕ) (x y : Reading) (t : Bool) → (t ≡ true → Judges text b x) → (t ≡ false → Judges text b y) → Judges text b (cond t x y)
 test_judged text b x y true h k = h refl
 test_judged text b x y false h k = k refl
 
 -- the same outcome
-pub judged_as : (text : List ℕ) (b : ℕ) (x y : Outcome) → x ≡ y → Judges text b y → Judges text b x
+pub judged_as : (text : List ℕ) (b : ℕ) (x y : Reading) → x ≡ y → Judges text b y → Judges text b x
 judged_as text b x y e h = subst (Judges text b) (sym e) h
 
 pub syntax_at : (text : List ℕ) (b : ℕ) → BeginsFaultless text → Judges text b (Err (Syntax (length text)))
@@ -111,6 +112,22 @@ syntax_at text b h = (refl, h)
 
 pub one_more : (text : List ℕ) (b c : ℕ) → b == c ≡ true → text ++ b ∷ [] ≡ text ++ c ∷ []
 one_more text b c e = ap (λ n. text ++ n ∷ []) (eq_at b c e)
+
+-- ---- one more digit
+signed-snoc : (minus : Bool) (ds : List ℕ) (b : ℕ) → signed minus ds ++ b ∷ [] ≡ signed minus (ds ++ b ∷ [])
+signed-snoc true ds b = refl
+signed-snoc false ds b = refl
+
+pub number_more : {ls : List Level} {p : ℕ} {minus : Bool} {ds : List ℕ} (text : List ℕ) (b : ℕ) → NumberText ls p minus ds text → NumberText ls p minus (ds ++ b ∷ []) (text ++ b ∷ [])
+number_more {minus = minus} {ds} text b h = record { before = h.before; stands = h.stands; place = h.place; printed = ap (λ w. w ++ b ∷ []) h.printed ∙ (append_assoc h.before (signed minus ds) (b ∷ []) ∙ ap (λ w. h.before ++ w) (signed-snoc minus ds b)) }
+
+-- the first digit
+number_begun : (m : Mode) (ls : List Level) (p : ℕ) (minus : Bool) (text : List ℕ) (b : ℕ) → NumberText ls p minus [] text → is_decimal b ≡ true → Judges text b (go (number_mode p minus b) (state m ls None))
+number_begun m ls p minus text b h decimal = by (b == 48) refl
+  where
+    by : (x : Bool) → b == 48 ≡ x → Judges text b (go (cond x (mode.Zero (open_number p minus 0)) (mode.Digits (open_number p minus (b - 48)))) (state m ls None))
+    by true e = r_zero (subst (λ n. NumberText ls p minus (n ∷ []) (text ++ b ∷ [])) (eq_at b 48 e) (number_more text b h))
+    by false e = subst (λ k. Reached (text ++ b ∷ []) (state (mode.Digits (open_number p minus k)) ls None)) (small_digit b decimal) (r_digits b [] (number_more text b h) e (decimal, tt))
 
 -- ---- the first byte of a value
 pub too_deep : (ls : List Level) (text : List ℕ) (b : ℕ) → Awaits ls text → (b ≡ 91) ⊎ (b ≡ 123) → (rest : List ℕ) → (BeginsFaultless (text ++ b ∷ []) → ⊥) → IsTooDeep (text ++ b ∷ rest) (length text)
@@ -132,41 +149,43 @@ scalar_judged : (m : Mode) (ls : List Level) (text : List ℕ) (b : ℕ) → Awa
 scalar_judged m ls text b a =
     let p = length text in
     let r = state m ls None in
-    go_test text b r (Ok (mode.Word p word.Null 1)) (cond (b == 116) (Ok (mode.Word p word.True 1)) (cond (b == 102) (Ok (mode.Word p word.False 1)) (cond (b == 45) (Ok (mode.Minus p)) (cond (b == 48) (Ok (mode.Zero p false)) (cond (is_decimal b) (Ok (mode.Digits p false (b - 48))) (Err (Syntax p))))))) (b == 110)
-    (λ e. r_word (record { before = text; stands = a; place = refl; short = omega arith; printed = one_more text b 110 e }))
-    (λ n. go_test text b r (Ok (mode.Word p word.True 1)) (cond (b == 102) (Ok (mode.Word p word.False 1)) (cond (b == 45) (Ok (mode.Minus p)) (cond (b == 48) (Ok (mode.Zero p false)) (cond (is_decimal b) (Ok (mode.Digits p false (b - 48))) (Err (Syntax p)))))) (b == 116)
-    (λ e. r_word (record { before = text; stands = a; place = refl; short = omega arith; printed = one_more text b 116 e }))
-    (λ n. go_test text b r (Ok (mode.Word p word.False 1)) (cond (b == 45) (Ok (mode.Minus p)) (cond (b == 48) (Ok (mode.Zero p false)) (cond (is_decimal b) (Ok (mode.Digits p false (b - 48))) (Err (Syntax p))))) (b == 102)
-    (λ e. r_word (record { before = text; stands = a; place = refl; short = omega arith; printed = one_more text b 102 e }))
-    (λ n. go_test text b r (Ok (mode.Minus p)) (cond (b == 48) (Ok (mode.Zero p false)) (cond (is_decimal b) (Ok (mode.Digits p false (b - 48))) (Err (Syntax p)))) (b == 45)
+    let from_digit = cond (is_decimal b) (Ok (number_mode p false b)) (Err (Syntax p)) in
+    let from_minus = cond (b == 45) (Ok (mode.Minus p)) from_digit in
+    let from_false = cond (b == 102) (Ok (name_mode p literal.False)) from_minus in
+    let from_true = cond (b == 116) (Ok (name_mode p literal.True)) from_false in
+    go_test text b r (Ok (name_mode p literal.Null)) from_true (b == 110)
+    (λ e. r_name (record { before = text; stands = a; place = refl; short = omega arith; printed = one_more text b 110 e }))
+    (λ n. go_test text b r (Ok (name_mode p literal.True)) from_false (b == 116)
+    (λ e. r_name (record { before = text; stands = a; place = refl; short = omega arith; printed = one_more text b 116 e }))
+    (λ n. go_test text b r (Ok (name_mode p literal.False)) from_minus (b == 102)
+    (λ e. r_name (record { before = text; stands = a; place = refl; short = omega arith; printed = one_more text b 102 e }))
+    (λ n. go_test text b r (Ok (mode.Minus p)) from_digit (b == 45)
     (λ e. r_minus (record { before = text; stands = a; place = refl; printed = one_more text b 45 e }))
-    (λ n. go_test text b r (Ok (mode.Zero p false)) (cond (is_decimal b) (Ok (mode.Digits p false (b - 48))) (Err (Syntax p))) (b == 48)
-    (λ e. r_zero (record { before = text; stands = a; place = refl; printed = one_more text b 48 e }))
-    (λ n. go_test text b r (Ok (mode.Digits p false (b - 48))) (Err (Syntax p)) (is_decimal b)
-    (λ e. subst (λ k. Reached (text ++ b ∷ []) (state (mode.Digits p false k) ls None)) (small_digit b e) (r_digits b [] (record { before = text; stands = a; place = refl; printed = refl }) n (e, tt)))
-    (λ n. syntax_at text b (awaits_faultless ls text a)))))))
+    (λ n. go_test text b r (Ok (number_mode p false b)) (Err (Syntax p)) (is_decimal b)
+    (λ e. number_begun m ls p false text b (record { before = text; stands = a; place = refl; printed = sym (append-nil text) }) e)
+    (λ n. syntax_at text b (awaits_faultless ls text a))))))
 
 pub begin_judged : (m : Mode) (ls : List Level) (text : List ℕ) (b : ℕ) → Awaits ls text → Judges text b (begin_value (length text) b (state m ls None))
 unfolding begin_value
 begin_judged m ls text b a =
     let p = length text in
     let r = state m ls None in
-    test_judged text b (go (mode.Text p false at.Between) r) (cond (b == 91) (open_level p (level.List p []) mode.FirstItem r) (cond (b == 123) (open_level p (level.Object p []) mode.FirstKey r) (go_if (scalar_mode p b) r))) (b == 34)
+    test_judged text b (go (text_mode p false) r) (cond (b == 91) (open_level p (level.List p []) mode.FirstItem r) (cond (b == 123) (open_level p (level.Object p []) mode.FirstKey r) (go_if (scalar_mode p b) r))) (b == 34)
     (λ e. r_text (record { before = text; stands = a; place = refl; chars = []; are = tt; content_is = refl; spelling = tt; printed = one_more text b 34 e }))
     (λ n. test_judged text b (open_level p (level.List p []) mode.FirstItem r) (cond (b == 123) (open_level p (level.Object p []) mode.FirstKey r) (go_if (scalar_mode p b) r)) (b == 91)
-    (λ e. test_judged text b (Ok (record r { levels = level.List p [] ∷ ls; mode = mode.FirstItem })) (Err (TooDeep p)) (nat_lt (length ls) max_depth)
-    (λ l. r_first_item (record { outer = text; stands = a; place = refl; room = below (length ls) max_depth l; space = []; white = tt; printed = one_more text b 91 e }))
+    (λ e. test_judged text b (Ok (record r { levels = level.List p [] ∷ ls; mode = mode.FirstItem })) (Err (TooDeep p)) (nat_lt (length ls) MAX_LEVELS)
+    (λ l. r_first_item (record { outer = text; stands = a; place = refl; room = below (length ls) MAX_LEVELS l; space = []; white = tt; printed = one_more text b 91 e }))
     (λ l. too_deep ls text b a (inl (eq_at b 91 e))))
     (λ n. test_judged text b (open_level p (level.Object p []) mode.FirstKey r) (go_if (scalar_mode p b) r) (b == 123)
-    (λ e. test_judged text b (Ok (record r { levels = level.Object p [] ∷ ls; mode = mode.FirstKey })) (Err (TooDeep p)) (nat_lt (length ls) max_depth)
-    (λ l. r_first_key (record { outer = text; stands = a; place = refl; room = below (length ls) max_depth l; space = []; white = tt; printed = one_more text b 123 e }))
+    (λ e. test_judged text b (Ok (record r { levels = level.Object p [] ∷ ls; mode = mode.FirstKey })) (Err (TooDeep p)) (nat_lt (length ls) MAX_LEVELS)
+    (λ l. r_first_key (record { outer = text; stands = a; place = refl; room = below (length ls) MAX_LEVELS l; space = []; white = tt; printed = one_more text b 123 e }))
     (λ l. too_deep ls text b a (inr (eq_at b 123 e))))
     (λ n. scalar_judged m ls text b a)))
 
 -- ---- keys
 pub key_judged : (m : Mode) (ls : List Level) (q : ℕ) (members : List Member) (text : List ℕ) (b : ℕ) → KeyAwaits (Awaits ls) (length ls) q members text → Judges text b (begin_key (length text) b (state m (level.Object q members ∷ ls) None))
 key_judged m ls q members text b k =
-    test_judged text b (go (mode.Text (length text) true at.Between) (state m (level.Object q members ∷ ls) None)) (Err (Syntax (length text))) (b == 34)
+    test_judged text b (go (text_mode (length text) true) (state m (level.Object q members ∷ ls) None)) (Err (Syntax (length text))) (b == 34)
     (λ e. r_key_text (record { before = text; stands = k; place = refl; chars = []; are = tt; content_is = refl; spelling = tt; printed = one_more text b 34 e }))
     (λ n. syntax_at text b (key_awaits_faultless ls text k))
 
@@ -237,7 +256,7 @@ after_blank text b r e (after_item a) = after_item (record { last = a.last; is =
 after_blank text b r e (after_entry a) = after_entry (record { last = a.last; es = a.es; front = a.front; inside = a.inside; space = a.space ++ b ∷ []; white = space-snoc a.space b a.white e; printed = ap (λ w. w ++ b ∷ []) a.printed ∙ snoc-two a.front a.space b })
 
 pub after_judged : (text : List ℕ) (b : ℕ) (r : Reader) → AfterValue text r → Judges text b (between (length text) b r)
-unfolding between next
+unfolding between take_comma
 after_judged text b r (after_all {json = json} h) =
     let s = state mode.After [] (Some json) in
     let no = syntax_at text b (after_faultless text s (after_all h)) in
@@ -266,64 +285,64 @@ after_judged text b r (after_entry {ls} {p} {members} a) =
     (λ n. test_judged text b (close_object (length text) s) (Err (Syntax (length text))) (b == 125) (λ e. object_judged mode.After ls p members text b e (entry_after_closed text a)) (λ n. no))))
 
 -- ---- names
-word_tree : Word → Tree
-word_tree word.Null = null
-word_tree word.True = boolean true
-word_tree word.False = boolean false
+word_tree : LiteralName → Tree
+word_tree literal.Null = null
+word_tree literal.True = boolean true
+word_tree literal.False = boolean false
 
-word_print : (w : Word) → print (word_tree w) ≡ word_text w
+word_print : (w : LiteralName) → print (word_tree w) ≡ literal_letters w
 unfolding word_tree
-word_print word.Null = refl
-word_print word.True = refl
-word_print word.False = refl
+word_print literal.Null = refl
+word_print literal.True = refl
+word_print literal.False = refl
 
-word_is_tree : (w : Word) → IsTree (word_tree w)
+word_is_tree : (w : LiteralName) → IsTree (word_tree w)
 unfolding word_tree
-word_is_tree word.Null = tt
-word_is_tree word.True = tt
-word_is_tree word.False = tt
+word_is_tree literal.Null = tt
+word_is_tree literal.True = tt
+word_is_tree literal.False = tt
 
-word_taken : (w : Word) (depth : ℕ) → IsTaken depth (word_tree w)
+word_taken : (w : LiteralName) (depth : ℕ) → IsTaken depth (word_tree w)
 unfolding word_tree
-word_taken word.Null depth = tt
-word_taken word.True depth = tt
-word_taken word.False depth = tt
+word_taken literal.Null depth = tt
+word_taken literal.True depth = tt
+word_taken literal.False depth = tt
 
-word_means : (w : Word) (p : ℕ) → value_at p (word_tree w) ≡ word_value p w
+word_means : (w : LiteralName) (p : ℕ) → value_at p (word_tree w) ≡ literal_value p w
 unfolding word_tree
-word_means word.Null p = refl
-word_means word.True p = refl
-word_means word.False p = refl
+word_means literal.Null p = refl
+word_means literal.True p = refl
+word_means literal.False p = refl
 
-pub word_faultless : (ls : List Level) (p : ℕ) (w : Word) (n : ℕ) (text : List ℕ) → WordText ls p w n text → BeginsFaultless text
+pub word_faultless : (ls : List Level) (p : ℕ) (w : LiteralName) (n : ℕ) (text : List ℕ) → NameText ls p w n text → BeginsFaultless text
 word_faultless ls p w n text h =
-    faultless-front text (drop n (word_text w)) (faultless-is (h.before ++ print (word_tree w)) (text ++ drop n (word_text w))
-    (ap (λ x. h.before ++ x) (word_print w ∙ sym (take-append-drop n (word_text w))) ∙ (sym (append_assoc h.before (take n (word_text w)) (drop n (word_text w))) ∙ ap (λ x. x ++ drop n (word_text w)) (sym h.printed)))
+    faultless-front text (drop n (literal_letters w)) (faultless-is (h.before ++ print (word_tree w)) (text ++ drop n (literal_letters w))
+    (ap (λ x. h.before ++ x) (word_print w ∙ sym (take-append-drop n (literal_letters w))) ∙ (sym (append_assoc h.before (take n (literal_letters w)) (drop n (literal_letters w))) ∙ ap (λ x. x ++ drop n (literal_letters w)) (sym h.printed)))
     (plug ls h.before h.stands (word_tree w) (word_is_tree w) (word_taken w (length ls))))
 
 and_both : (x y : Bool) → (x && y) ≡ true → (x ≡ true) × (y ≡ true)
 and_both true y e = (refl, e)
 and_both false y e = cc
 
-pub word_judged : (ls : List Level) (p : ℕ) (w : Word) (n : ℕ) (text : List ℕ) (b : ℕ) → WordText ls p w n text → Judges text b (in_word (length text) p w n b (state (mode.Word p w n) ls None))
-unfolding in_word
+pub word_judged : (ls : List Level) (p : ℕ) (w : LiteralName) (n : ℕ) (text : List ℕ) (b : ℕ) → NameText ls p w n text → Judges text b (in_name (length text) (open_name p w n) b (state (mode.Name (open_name p w n)) ls None))
+unfolding in_name
 word_judged ls p w n text b h =
-    let r = state (mode.Word p w n) ls None in
+    let r = state (mode.Name (open_name p w n)) ls None in
     let place = length text in
-    test_judged text b (cond (n + 1 == length (word_text w)) (complete place (word_value p w) r) (go (mode.Word p w (n + 1)) r)) (Err (Syntax place)) (nat_lt n (length (word_text w)) && (b == letter_at (word_text w) n))
+    test_judged text b (cond (n + 1 == length (literal_letters w)) (complete place (literal_value p w) r) (go (mode.Name (open_name p w (n + 1))) r)) (Err (Syntax place)) (nat_lt n (length (literal_letters w)) && (b == letter_at w n))
     (λ e.
-    let tests = and_both (nat_lt n (length (word_text w))) (b == letter_at (word_text w) n) e in
-    let grown : text ++ b ∷ [] ≡ h.before ++ take (n + 1) (word_text w) =
-    one_more text b (letter_at (word_text w) n) tests.1 ∙ (ap (λ x. x ++ letter_at (word_text w) n ∷ []) h.printed ∙ (append_assoc h.before (take n (word_text w)) (letter_at (word_text w) n ∷ []) ∙ ap (λ x. h.before ++ x) (sym (take_more (word_text w) n 0 h.short)))) in
-    test_judged text b (complete place (word_value p w) r) (go (mode.Word p w (n + 1)) r) (n + 1 == length (word_text w))
+    let tests = and_both (nat_lt n (length (literal_letters w))) (b == letter_at w n) e in
+    let grown : text ++ b ∷ [] ≡ h.before ++ take (n + 1) (literal_letters w) =
+    one_more text b (letter_at w n) tests.1 ∙ (ap (λ x. x ++ letter_at w n ∷ []) h.printed ∙ (append_assoc h.before (take n (literal_letters w)) (letter_at w n ∷ []) ∙ ap (λ x. h.before ++ x) (sym (take_more (literal_letters w) n 0 h.short)))) in
+    test_judged text b (complete place (literal_value p w) r) (go (mode.Name (open_name p w (n + 1))) r) (n + 1 == length (literal_letters w))
     (λ f.
-    let whole : text ++ b ∷ [] ≡ h.before ++ print (word_tree w) = grown ∙ ap (λ x. h.before ++ x) (take_all (n + 1) (word_text w) (let same : n + 1 ≡ length (word_text w) = eq_at (n + 1) (length (word_text w)) f in omega arith) ∙ sym (word_print w)) in
-    judged_as text b (complete place (word_value p w) r) (Ok (finished (word_value p w) ls None)) (complete_ready place (word_value p w) (mode.Word p w n) ls None (awaits-ready ls h.before h.stands))
-    (r_after (subst (λ x. AfterValue x (finished (word_value p w) ls None)) (sym whole)
+    let whole : text ++ b ∷ [] ≡ h.before ++ print (word_tree w) = grown ∙ ap (λ x. h.before ++ x) (take_all (n + 1) (literal_letters w) (let same : n + 1 ≡ length (literal_letters w) = eq_at (n + 1) (length (literal_letters w)) f in omega arith) ∙ sym (word_print w)) in
+    judged_as text b (complete place (literal_value p w) r) (Ok (finished (literal_value p w) ls None)) (complete_ready place (literal_value p w) (mode.Name (open_name p w n)) ls None (awaits-ready ls h.before h.stands))
+    (r_after (subst (λ x. AfterValue x (finished (literal_value p w) ls None)) (sym whole)
     (subst (λ j. AfterValue (h.before ++ print (word_tree w)) (finished j ls None)) (ap (λ k. value_at k (word_tree w)) (sym h.place) ∙ word_means w p) (finished_after ls h.before h.stands (word_tree w) (word_is_tree w) (word_taken w (length ls)))))))
     (λ f.
-    let apart : n + 1 < length (word_text w) = short_of n (length (word_text w)) h.short f in
-    r_word (record { before = h.before; stands = h.stands; place = h.place; short = apart; printed = grown })))
+    let apart : n + 1 < length (literal_letters w) = short_of n (length (literal_letters w)) h.short f in
+    r_name (record { before = h.before; stands = h.stands; place = h.place; short = apart; printed = grown })))
     (λ e. syntax_at text b (word_faultless ls p w n text h))
   where
     short_of : (k m : ℕ) → k < m → k + 1 == m ≡ false → k + 1 < m
@@ -338,22 +357,35 @@ pub digits-snoc : (ds : List ℕ) (b : ℕ) → AreDigits ds → is_decimal b �
 digits-snoc [] b h e = (e, tt)
 digits-snoc (d ∷ ds) b h e = (h.0, digits-snoc ds b h.1 e)
 
-signed-snoc : (minus : Bool) (ds : List ℕ) (b : ℕ) → signed minus ds ++ b ∷ [] ≡ signed minus (ds ++ b ∷ [])
-signed-snoc true ds b = refl
-signed-snoc false ds b = refl
+number_front : (ls : List Level) (p : ℕ) (minus : Bool) (ds : List ℕ) (text rest : List ℕ) (h : NumberText ls p minus ds text) → text ++ rest ≡ h.before ++ (signed minus ds ++ rest)
+number_front ls p minus ds text rest h = ap (λ w. w ++ rest) h.printed ∙ append_assoc h.before (signed minus ds) rest
 
-pub number_more : {ls : List Level} {p : ℕ} {minus : Bool} {ds : List ℕ} (text : List ℕ) (b : ℕ) → NumberText ls p minus ds text → NumberText ls p minus (ds ++ b ∷ []) (text ++ b ∷ [])
-number_more {minus = minus} {ds} text b h = record { before = h.before; stands = h.stands; place = h.place; printed = ap (λ w. w ++ b ∷ []) h.printed ∙ (append_assoc h.before (signed minus ds) (b ∷ []) ∙ ap (λ w. h.before ++ w) (signed-snoc minus ds b)) }
+pub number_within : (ls : List Level) (p : ℕ) (minus : Bool) (ds : List ℕ) (text rest : List ℕ) → NumberText ls p minus ds text → p ≤ length (text ++ rest)
+number_within ls p minus ds text rest h =
+    omega (arith, h.place, ap length (number_front ls p minus ds text rest h), length-append h.before (signed minus ds ++ rest))
 
-pub number_stands : (ls : List Level) (p : ℕ) (minus : Bool) (ds : List ℕ) (text rest : List ℕ) → NumberText ls p minus ds text → IsWhole ds → HasNumber (text ++ rest) p minus ds rest
-number_stands ls p minus ds text rest h whole =
-    let bytes : text ++ rest ≡ h.before ++ (signed minus ds ++ rest) = ap (λ w. w ++ rest) h.printed ∙ append_assoc h.before (signed minus ds) rest in
-    record {
-      within = omega (arith, h.place, ap length bytes, length-append h.before (signed minus ds ++ rest));
-      whole = whole;
-      stands = ap (λ n. drop n (text ++ rest)) h.place ∙ (ap (drop (length h.before)) bytes ∙ drop-append_seam h.before (signed minus ds ++ rest));
-      awaited = subst AwaitsValue (sym (ap (λ n. take n (text ++ rest)) h.place ∙ (ap (take (length h.before)) bytes ∙ take-append_seam h.before (signed minus ds ++ rest)))) (awaits_value ls h.before h.stands);
-    }
+pub number_back : (ls : List Level) (p : ℕ) (minus : Bool) (ds : List ℕ) (text rest : List ℕ) → NumberText ls p minus ds text → drop p (text ++ rest) ≡ signed minus ds ++ rest
+number_back ls p minus ds text rest h =
+    ap (λ n. drop n (text ++ rest)) h.place
+    ∙ (ap (drop (length h.before)) (number_front ls p minus ds text rest h) ∙ drop-append_seam h.before (signed minus ds ++ rest))
+
+pub number_awaited : (ls : List Level) (p : ℕ) (minus : Bool) (ds : List ℕ) (text rest : List ℕ) → NumberText ls p minus ds text → AwaitsValue (take p (text ++ rest))
+number_awaited ls p minus ds text rest h =
+    subst AwaitsValue
+    (sym (ap (λ n. take n (text ++ rest)) h.place
+    ∙ (ap (take (length h.before)) (number_front ls p minus ds text rest h) ∙ take-append_seam h.before (signed minus ds ++ rest))))
+    (awaits_value ls h.before h.stands)
+
+abbrev pub number_stands : (ls : List Level) (p : ℕ) (minus : Bool) (ds : List ℕ) (text rest : List ℕ) → NumberText ls p minus ds text → IsWhole ds → HasNumber (text ++ rest) p
+number_stands ls p minus ds text rest h whole = record {
+  minus = minus;
+  digits = ds;
+  rest = rest;
+  within = number_within ls p minus ds text rest h;
+  whole = whole;
+  stands = number_back ls p minus ds text rest h;
+  awaited = number_awaited ls p minus ds text rest h;
+}
 
 number_bytes : (minus : Bool) (ds : List ℕ) → print (number minus ds [] []) ≡ signed minus ds
 number_bytes minus ds = append-nil (signed minus ds)
@@ -364,22 +396,22 @@ number_after ls p minus ds text h whole fit =
     (subst (λ n. AfterValue (h.before ++ print (number minus ds [] [])) (finished (Int n (int_value minus (magnitude ds))) ls None)) (sym h.place)
     (finished_after ls h.before h.stands (number minus ds [] []) (whole, tt, tt) (refl, refl, fit)))
 
-pub digits_judged : (m : Mode) (ls : List Level) (p : ℕ) (minus : Bool) (ds : List ℕ) (text : List ℕ) (b : ℕ) → NumberText ls p minus ds text → IsWhole ds → (is_decimal b ≡ false) ⊎ (fits minus (magnitude ds) ≡ true) → Judges text b (after_digits (length text) p minus (sat (magnitude ds)) b (state m ls None))
+pub digits_judged : (m : Mode) (ls : List Level) (p : ℕ) (minus : Bool) (ds : List ℕ) (text : List ℕ) (b : ℕ) → NumberText ls p minus ds text → IsWhole ds → (is_decimal b ≡ false) ⊎ (fits minus (magnitude ds) ≡ true) → Judges text b (after_digits (length text) (open_number p minus (sat (magnitude ds))) b (state m ls None))
 unfolding after_digits
 digits_judged m ls p minus ds text b h whole side =
-    test_judged text b (Err (Fraction p)) (and_then (end_number (length text) p minus (sat (magnitude ds)) (state m ls None)) (between (length text) b)) (is_mark b)
-    (λ e rest. (minus, ds, b ∷ rest, number_stands ls p minus ds text (b ∷ rest) h whole, e))
+    test_judged text b (Err (Fraction p)) (and_then (end_number (length text) (open_number p minus (sat (magnitude ds))) (state m ls None)) (between (length text) b)) (is_mark b)
+    (λ e rest. (number_stands ls p minus ds text (b ∷ rest) h whole, e))
     (λ unmarked. ended (fits minus (magnitude ds)) refl unmarked)
   where
-    ended : (fit : Bool) → fits minus (magnitude ds) ≡ fit → is_mark b ≡ false → Judges text b (and_then (end_number (length text) p minus (sat (magnitude ds)) (state m ls None)) (between (length text) b))
+    ended : (fit : Bool) → fits minus (magnitude ds) ≡ fit → is_mark b ≡ false → Judges text b (and_then (end_number (length text) (open_number p minus (sat (magnitude ds))) (state m ls None)) (between (length text) b))
     ended true e unmarked =
-        judged_as text b (and_then (end_number (length text) p minus (sat (magnitude ds)) (state m ls None)) (between (length text) b)) (between (length text) b (finished (Int p (int_value minus (magnitude ds))) ls None))
+        judged_as text b (and_then (end_number (length text) (open_number p minus (sat (magnitude ds))) (state m ls None)) (between (length text) b)) (between (length text) b (finished (Int p (int_value minus (magnitude ds))) ls None))
         (ap (λ o. and_then o (between (length text) b)) (number_taken (length text) p minus (magnitude ds) m ls None (awaits-ready ls h.before h.stands) e))
         (after_judged text b (finished (Int p (int_value minus (magnitude ds))) ls None) (number_after ls p minus ds text h whole e))
     ended false e unmarked =
-        judged_as text b (and_then (end_number (length text) p minus (sat (magnitude ds)) (state m ls None)) (between (length text) b)) (Err (Range p))
+        judged_as text b (and_then (end_number (length text) (open_number p minus (sat (magnitude ds))) (state m ls None)) (between (length text) b)) (Err (Range p))
         (ap (λ o. and_then o (between (length text) b)) (number_refused (length text) p minus (magnitude ds) m ls None e))
-        (λ rest. (minus, ds, b ∷ rest, number_stands ls p minus ds text (b ∷ rest) h whole, ends, e))
+        (λ rest. (number_stands ls p minus ds text (b ∷ rest) h whole, ends, e))
       where
         ends : is_decimal b || is_mark b ≡ false
         ends = elim side as (λ _. is_decimal b || is_mark b ≡ false) [ inl d ↦ rw (d, unmarked) refl | inr f ↦ absurd (let clash : true ≡ false = sym f ∙ e in cc) ]
@@ -393,9 +425,5 @@ minus_faultless ls p text h =
 pub minus_judged : (ls : List Level) (p : ℕ) (text : List ℕ) (b : ℕ) → NumberText ls p true [] text → Judges text b (after_minus (length text) p b (state (mode.Minus p) ls None))
 unfolding after_minus
 minus_judged ls p text b h =
-    let r = state (mode.Minus p) ls None in
-    test_judged text b (go (mode.Zero p true) r) (cond (is_decimal b) (go (mode.Digits p true (b - 48)) r) (Err (Syntax (length text)))) (b == 48)
-    (λ e. r_zero (subst (λ n. NumberText ls p true (n ∷ []) (text ++ b ∷ [])) (eq_at b 48 e) (number_more text b h)))
-    (λ n. test_judged text b (go (mode.Digits p true (b - 48)) r) (Err (Syntax (length text))) (is_decimal b)
-    (λ e. subst (λ k. Reached (text ++ b ∷ []) (state (mode.Digits p true k) ls None)) (small_digit b e) (r_digits b [] (number_more text b h) n (e, tt)))
-    (λ e. syntax_at text b (minus_faultless ls p text h)))
+    test_judged text b (go (number_mode p true b) (state (mode.Minus p) ls None)) (Err (Syntax (length text))) (is_decimal b)
+    (λ e. number_begun (mode.Minus p) ls p true text b h e) (λ e. syntax_at text b (minus_faultless ls p text h))

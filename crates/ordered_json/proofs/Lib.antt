@@ -1,3 +1,4 @@
+pub mod MemberLemmas
 pub mod Keys
 pub mod Runs
 pub mod States

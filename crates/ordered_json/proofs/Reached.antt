@@ -1,12 +1,13 @@
 -- What a text looks like up to the byte that the reader stands at.
 use Rattle.std.proofs.Common.{◌≡◌, [], ◌∷◌, ◌++◌, ℕ, suc, ◌+◌, ◌<◌, true, false, List, length, map, refl, ap, sym, ◌∙◌, subst, append_assoc}
+use Rattle.ordered_json.specs.declared.TheConstants.{MAX_LEVELS}
 use Rattle.ordered_json.specs.declared.json.Member.{Member}
 use Rattle.ordered_json.specs.declared.json.OrderedJson.{OrderedJson}
 use Rattle.ordered_json.specs.declared.level.Level.{Level}
 use Rattle.ordered_json.specs.declared.level.Level.TheVariants as level
 use Rattle.ordered_json.specs.Words.{key_of}
 use Rattle.ordered_json.specs.Grammar.{is_blank, Char, AreChars, IsSpace, print_string, Tree, array, object, no_elements, element, no_members, member, print, lead, IsTree, null, IsPrinted}
-use Rattle.ordered_json.specs.Meaning.{content, value_at, has_key, max_depth, IsTaken, HasValue}
+use Rattle.ordered_json.specs.Meaning.{string_content, value_at, has_key, IsTaken, HasValue}
 use Rattle.ordered_json.specs.Faults.{Begins, BeginsFaultless}
 use Rattle.ordered_json.proofs.States.{Ready}
 use Rattle.ordered_json.proofs.Fronts.{Item, comma_after, print_items, AreItems, item_values, close, print-close, are-close, taken-close, Entry, comma_past, print_entries, entry_keys, AreEntries, entry_values, close_members, keys-entries, print-close_members, are-close_members, taken-close_members}
@@ -16,7 +17,7 @@ pub record ListText (outside : List ℕ → Type 0) (depth p : ℕ) (items : Lis
   pub outer : List ℕ
   pub stands : outside outer
   pub place : p ≡ length outer
-  pub room : depth < max_depth
+  pub room : depth < MAX_LEVELS
   pub are : AreItems (suc depth) is
   pub values : items ≡ item_values (p + 1) is
   pub printed : text ≡ outer ++ 91 ∷ print_items is
@@ -26,7 +27,7 @@ pub record ObjectText (outside : List ℕ → Type 0) (depth p : ℕ) (members :
   pub outer : List ℕ
   pub stands : outside outer
   pub place : p ≡ length outer
-  pub room : depth < max_depth
+  pub room : depth < MAX_LEVELS
   pub are : AreEntries (suc depth) es
   pub values : members ≡ entry_values (p + 1) es
   pub printed : text ≡ outer ++ 123 ∷ print_entries es
@@ -60,9 +61,9 @@ pub record ColonAwaits (outside : List ℕ → Type 0) (depth p : ℕ) (members 
   pub chars : List Char
   pub gap : List ℕ
   pub are : AreChars chars
-  pub fresh : has_key (content chars) (map key_of members) ≡ false
+  pub fresh : has_key (string_content chars) (map key_of members) ≡ false
   pub white : IsSpace gap
-  pub key_is : key ≡ content chars
+  pub key_is : key ≡ string_content chars
   pub place : key_at ≡ length before
   pub printed : text ≡ before ++ (print_string chars ++ gap)
 
@@ -219,7 +220,7 @@ plugged (level.Member p members key key_at ∷ ls) text a t h =
     let k = a.named.awaited in
     let last = member k.space k.space' n.chars n.gap a.gap' t (no_members []) in
     let whole = object (close_members k.es last) in
-    let fresh : has_key (content n.chars) (entry_keys k.es) ≡ false = subst (λ ks. has_key (content n.chars) ks ≡ false) (ap (map key_of) k.inside.values ∙ keys-entries (p + 1) k.es) n.fresh in
+    let fresh : has_key (string_content n.chars) (entry_keys k.es) ≡ false = subst (λ ks. has_key (string_content n.chars) ks ≡ false) (ap (map key_of) k.inside.values ∙ keys-entries (p + 1) k.es) n.fresh in
     widened text k.inside.outer t whole (suc (length ls)) (length ls) 125
     (append_assoc text (print t) (125 ∷ []) ∙ object_with (length ls) p members key key_at text (Awaits ls) a t)
     (λ taken. (k.inside.room, taken-close_members (suc (length ls)) k.es last k.inside.are (fresh, taken, tt)))

@@ -6,7 +6,7 @@ use Rattle.ordered_json.specs.declared.mode.Mode.TheVariants as mode
 use Rattle.ordered_json.specs.declared.reader.Reader.{Reader}
 use Rattle.ordered_json.specs.Words.{key_of}
 use Rattle.ordered_json.specs.Grammar.{is_blank, Char, AreChars, print_string, print}
-use Rattle.ordered_json.specs.Meaning.{content, has_key}
+use Rattle.ordered_json.specs.Meaning.{string_content, has_key}
 use Rattle.ordered_json.proofs.States.{state, finished}
 use Rattle.ordered_json.proofs.Reached.{KeyAwaits, Awaits, awaits-blank, key_awaits-blank, colon_awaits-blank, awaits-ready, faultless-front, faultless-is, plug}
 use Rattle.ordered_json.proofs.Fresh.{fresh_after}
@@ -22,14 +22,15 @@ use Rattle.ordered_json.specs.declared.mode.Spelling.TheVariants as at
 use Rattle.ordered_json.specs.Grammar.{is_decimal, print_char, print_chars, string}
 use Rattle.ordered_json.specs.Meaning.{magnitude, fits, char_value}
 use Rattle.ordered_json.specs.Faults.{BeginsFaultless, AwaitsKey, HasDoubleKey}
-use Rattle.ordered_json.specs.Steps.{complete, close_list, close_object, between, begin_value, begin_key, go, step, in_text, spelled_in, end_text, end_key, after_digits, in_digits, spell}
+use Rattle.ordered_json.specs.Steps.{complete, close_list, close_object, between, begin_value, begin_key, go, take_byte, in_text, spelled_in, end_text, end_key, after_digits, in_digits, open_number, open_text, with_digit}
+use Rattle.ordered_json.specs.Spell.{spell}
 use Rattle.ordered_json.proofs.States.{complete_ready}
 use Rattle.ordered_json.proofs.Numbers.{sat, grow, sat-grow}
 use Rattle.ordered_json.proofs.Strings.{text_state}
 use Rattle.ordered_json.proofs.Spelled.{IsSpelling, IsRight, SpellsChar, CanSpell, spelled_bytes, spell_right, can_spell}
-use Rattle.ordered_json.proofs.Fresh.{content-append, print_chars-append, are-append}
+use Rattle.ordered_json.proofs.Fresh.{string_content-append, print_chars-append, are-append}
 use Rattle.ordered_json.proofs.Values.{AfterValue, after_all, after_item, after_entry, finished_after, named_faultless, colon_awaits_faultless, awaits_key}
-use Rattle.ordered_json.proofs.Judged.{StringText, Reached, r_value, r_first_item, r_first_key, r_key, r_colon, r_after, r_word, r_minus, r_zero, r_digits, r_text, r_key_text, Judges, test_judged, judged_as, syntax_at, one_more, begin_judged, key_judged, first_awaits, first_key_awaits, first_blank, first_closed, first_closed_object, list_judged, object_judged, after_judged, word_judged, fold-snoc, digits-snoc, number_more, digits_judged, minus_judged}
+use Rattle.ordered_json.proofs.Judged.{StringText, Reached, r_value, r_first_item, r_first_key, r_key, r_colon, r_after, r_name, r_minus, r_zero, r_digits, r_text, r_key_text, Judges, test_judged, judged_as, syntax_at, one_more, begin_judged, key_judged, first_awaits, first_key_awaits, first_blank, first_closed, first_closed_object, list_judged, object_judged, after_judged, word_judged, fold-snoc, digits-snoc, number_more, digits_judged, minus_judged}
 
 -- ---- strings
 -- the characters that are read, the last one made whole
@@ -94,7 +95,7 @@ text_char {s = s} {c} text b v h right = record {
   place = h.place;
   chars = h.chars ++ right.0 ∷ [];
   are = are-append h.chars (right.0 ∷ []) h.are (right.1, tt);
-  content_is = ap (λ d. d ++ encode_utf8 v) h.content_is ∙ (ap (λ n. content h.chars ++ encode_utf8 n) (sym right.2) ∙ (ap (λ d. content h.chars ++ d) (sym (append-nil (encode_utf8 (char_value right.0)))) ∙ sym (content-append h.chars (right.0 ∷ []))));
+  content_is = ap (λ d. d ++ encode_utf8 v) h.content_is ∙ (ap (λ n. string_content h.chars ++ encode_utf8 n) (sym right.2) ∙ (ap (λ d. string_content h.chars ++ d) (sym (append-nil (encode_utf8 (char_value right.0)))) ∙ sym (string_content-append h.chars (right.0 ∷ []))));
   spelling = tt;
   printed = ap (λ w. w ++ b ∷ []) h.printed ∙ (append_assoc h.before (34 ∷ (print_chars h.chars ++ spelled_bytes s)) (b ∷ []) ∙ ap (λ w. h.before ++ 34 ∷ w)
       (append_assoc (print_chars h.chars) (spelled_bytes s) (b ∷ []) ∙ (ap (λ w. print_chars h.chars ++ w) (sym right.3 ∙ sym (append-nil (print_char right.0))) ∙ (sym (print_chars-append h.chars (right.0 ∷ [])) ∙ sym (append-nil (print_chars (h.chars ++ right.0 ∷ [])))))));
@@ -107,14 +108,14 @@ text_ends text b h right =
     ∙ (ap (λ w. w ++ 34 ∷ []) (h.printed ∙ ap (λ w. h.before ++ 34 ∷ w) (ap (λ w. print_chars h.chars ++ w) right.0 ∙ append-nil (print_chars h.chars)))
     ∙ append_assoc h.before (34 ∷ print_chars h.chars) (34 ∷ []))
 
-text_judged : (ls : List Level) (p : ℕ) (s : Spelling) (c text : List ℕ) (b : ℕ) (x : Spelled) → StringText (Awaits ls) p s c text → IsRight s b x → Judges text b (spelled_in (length text) p false (text_state p false s ls None c) x)
+text_judged : (ls : List Level) (p : ℕ) (s : Spelling) (c text : List ℕ) (b : ℕ) (x : Spelled) → StringText (Awaits ls) p s c text → IsRight s b x → Judges text b (spelled_in (length text) (open_text p false s) (text_state p false s ls None c) x)
 unfolding end_text
 text_judged ls p s c text b (spelled.More t) h right = r_text (text_more text b t h right)
 text_judged ls p s c text b (spelled.Char v) h right = r_text (text_char text b v h right)
 text_judged ls p s c text b spelled.End h right =
-    judged_as text b (complete (length text) (Text p c) (state (mode.Text p false s) ls None)) (Ok (finished (Text p c) ls None)) (complete_ready (length text) (Text p c) (mode.Text p false s) ls None (awaits-ready ls h.before h.stands))
+    judged_as text b (complete (length text) (Text p c) (state (mode.Text (open_text p false s)) ls None)) (Ok (finished (Text p c) ls None)) (complete_ready (length text) (Text p c) (mode.Text (open_text p false s)) ls None (awaits-ready ls h.before h.stands))
     (r_after (subst (λ w. AfterValue w (finished (Text p c) ls None)) (sym (text_ends text b h right))
-    (subst (λ j. AfterValue (h.before ++ print_string h.chars) (finished j ls None)) (ap (λ n. Text n (content h.chars)) (sym h.place) ∙ ap (Text p) (sym h.content_is)) (finished_after ls h.before h.stands (string h.chars) h.are tt))))
+    (subst (λ j. AfterValue (h.before ++ print_string h.chars) (finished j ls None)) (ap (λ n. Text n (string_content h.chars)) (sym h.place) ∙ ap (Text p) (sym h.content_is)) (finished_after ls h.before h.stands (string h.chars) h.are tt))))
 text_judged ls p s c text b spelled.Bad h right = syntax_at text b (text_faultless ls p s c text h)
 
 -- the key that stands twice
@@ -133,7 +134,7 @@ double_key ls q members p s c text b h right rest refused =
       double = λ f. refused (faultless-is (h.before ++ print_string h.chars) (text ++ b ∷ []) (sym ends) (subst (λ w. BeginsFaultless (w ++ print_string h.chars)) front f));
     }
 
-key_text_judged : (ls : List Level) (q : ℕ) (members : List Member) (p : ℕ) (s : Spelling) (c text : List ℕ) (b : ℕ) (x : Spelled) → StringText (KeyAwaits (Awaits ls) (length ls) q members) p s c text → IsRight s b x → Judges text b (spelled_in (length text) p true (text_state p true s (level.Object q members ∷ ls) None c) x)
+key_text_judged : (ls : List Level) (q : ℕ) (members : List Member) (p : ℕ) (s : Spelling) (c text : List ℕ) (b : ℕ) (x : Spelled) → StringText (KeyAwaits (Awaits ls) (length ls) q members) p s c text → IsRight s b x → Judges text b (spelled_in (length text) (open_text p true s) (text_state p true s (level.Object q members ∷ ls) None c) x)
 unfolding end_text end_key
 key_text_judged ls q members p s c text b (spelled.More t) h right = r_key_text (text_more text b t h right)
 key_text_judged ls q members p s c text b (spelled.Char v) h right = r_key_text (text_char text b v h right)
@@ -155,8 +156,8 @@ key_text_judged ls q members p s c text b spelled.End h right =
 key_text_judged ls q members p s c text b spelled.Bad h right = syntax_at text b (key_text_faultless ls q members p s c text h)
 
 -- ---- every byte
-pub reached_step : (text : List ℕ) (b : ℕ) (r : Reader) → Reached text r → Judges text b (step (length text) b r)
-unfolding step between in_text in_digits
+pub reached_step : (text : List ℕ) (b : ℕ) (r : Reader) → Reached text r → Judges text b (take_byte (length text) b r)
+unfolding take_byte between in_text in_digits
 reached_step text b r (r_value {ls} a) =
     let s = state mode.Value ls None in
     test_judged text b (Ok s) (begin_value (length text) b s) (is_blank b) (λ e. r_value (awaits-blank ls text b e a)) (λ e. begin_judged mode.Value ls text b a)
@@ -180,20 +181,20 @@ reached_step text b r (r_colon {ls} {p} {members} {key} {key_at} c) =
 reached_step text b r (r_after (after_all h)) = after_judged text b r (after_all h)
 reached_step text b r (r_after (after_item a)) = after_judged text b r (after_item a)
 reached_step text b r (r_after (after_entry a)) = after_judged text b r (after_entry a)
-reached_step text b r (r_word {ls} {p} {w} {n} h) = word_judged ls p w n text b h
+reached_step text b r (r_name {ls} {p} {w} {n} h) = word_judged ls p w n text b h
 reached_step text b r (r_minus {ls} {p} h) = minus_judged ls p text b h
-reached_step text b r (r_zero {ls} {p} {minus} h) = digits_judged (mode.Zero p minus) ls p minus (48 ∷ []) text b h (inl (refl, refl)) (inr (zero_fits minus))
+reached_step text b r (r_zero {ls} {p} {minus} h) = digits_judged (mode.Zero (open_number p minus 0)) ls p minus (48 ∷ []) text b h (inl (refl, refl)) (inr (zero_fits minus))
   where
     zero_fits : (m : Bool) → fits m 0 ≡ true
     zero_fits true = refl
     zero_fits false = refl
 reached_step text b r (r_digits {ls} {p} {minus} d ds h n are) =
     let k = magnitude (d ∷ ds) in
-    let s = state (mode.Digits p minus (sat (magnitude (d ∷ ds)))) ls None in
+    let s = state (mode.Digits (open_number p minus (sat (magnitude (d ∷ ds))))) ls None in
     chosen (is_decimal b) refl
   where
-    chosen : (x : Bool) → is_decimal b ≡ x → Judges text b (cond (is_decimal b) (go (mode.Digits p minus (min (min (sat (magnitude (d ∷ ds)) * 10) (2 ^ 64 - 1) + (b - 48)) (2 ^ 64 - 1))) (state (mode.Digits p minus (sat (magnitude (d ∷ ds)))) ls None)) (after_digits (length text) p minus (sat (magnitude (d ∷ ds))) b (state (mode.Digits p minus (sat (magnitude (d ∷ ds)))) ls None)))
-    chosen true e = rw e (subst (λ m. Reached (text ++ b ∷ []) (state (mode.Digits p minus m) ls None)) (ap sat (fold-snoc ds (grow 0 d) b) ∙ sym (sat-grow (magnitude (d ∷ ds)) (b - 48))) (r_digits d (ds ++ b ∷ []) (number_more text b h) n (digits-snoc (d ∷ ds) b are e)))
-    chosen false e = rw e (digits_judged (mode.Digits p minus (sat (magnitude (d ∷ ds)))) ls p minus (d ∷ ds) text b h (inr (n, are)) (inl e))
+    chosen : (x : Bool) → is_decimal b ≡ x → Judges text b (cond (is_decimal b) (go (mode.Digits (open_number p minus (with_digit (sat (magnitude (d ∷ ds))) b))) (state (mode.Digits (open_number p minus (sat (magnitude (d ∷ ds))))) ls None)) (after_digits (length text) (open_number p minus (sat (magnitude (d ∷ ds)))) b (state (mode.Digits (open_number p minus (sat (magnitude (d ∷ ds))))) ls None)))
+    chosen true e = rw e (subst (λ m. Reached (text ++ b ∷ []) (state (mode.Digits (open_number p minus m)) ls None)) (ap sat (fold-snoc ds (grow 0 d) b) ∙ sym (sat-grow (magnitude (d ∷ ds)) (b - 48))) (r_digits d (ds ++ b ∷ []) (number_more text b h) n (digits-snoc (d ∷ ds) b are e)))
+    chosen false e = rw e (digits_judged (mode.Digits (open_number p minus (sat (magnitude (d ∷ ds))))) ls p minus (d ∷ ds) text b h (inr (n, are)) (inl e))
 reached_step text b r (r_text {ls} {p} {s} {c} h) = text_judged ls p s c text b (spell s b) h (spell_right s b h.spelling)
 reached_step text b r (r_key_text {ls} {q} {members} {p} {s} {c} h) = key_text_judged ls q members p s c text b (spell s b) h (spell_right s b h.spelling)

@@ -12,21 +12,22 @@ use Rattle.ordered_json.specs.declared.mode.Spelling.{Spelling}
 use Rattle.ordered_json.specs.declared.mode.Spelling.TheVariants as at
 use Rattle.ordered_json.specs.declared.reader.Reader.{Reader}
 use Rattle.ordered_json.specs.Grammar.{Char, plain, escaped, coded, paired, CodeUnit, are_hex, unit_value, is_high_surrogate, is_low_surrogate, escape_value, IsChar, AreChars, print_char, print_chars, print_unit}
-use Rattle.ordered_json.specs.Meaning.{char_value, content, pair_value}
-use Rattle.ordered_json.specs.Steps.{step, in_text, spell, char_of, two_bytes, three_bytes, four_bytes, is_second, is_tail, is_lead, hex_unit}
+use Rattle.ordered_json.specs.Meaning.{char_value, string_content, pair_value}
+use Rattle.ordered_json.specs.Steps.{take_byte, in_text, open_text}
+use Rattle.ordered_json.specs.Spell.{spell, char_of, two_bytes, three_bytes, four_bytes, is_second, is_tail, is_lead, hex_unit}
 use Rattle.ordered_json.proofs.Runs.{Answers, by_step, by_same, by_place, by_bytes}
 use Rattle.ordered_json.proofs.Accept.{Answer}
 
 -- a string is being read
 abbrev pub text_state : ℕ → Bool → Spelling → List Level → Option OrderedJson → List ℕ → Reader
-text_state p k s ls o c = record { levels = ls; mode = mode.Text p k s; content = c; root = o }
+text_state p k s ls o c = record { levels = ls; mode = mode.Text (open_text p k s); content = c; root = o }
 
-pub more_step : (place b p : ℕ) (k : Bool) (s t : Spelling) (ls : List Level) (o : Option OrderedJson) (c : List ℕ) → spell s b ≡ spelled.More t → step place b (text_state p k s ls o c) ≡ Ok (text_state p k t ls o c)
-unfolding step in_text
+pub more_step : (place b p : ℕ) (k : Bool) (s t : Spelling) (ls : List Level) (o : Option OrderedJson) (c : List ℕ) → spell s b ≡ spelled.More t → take_byte place b (text_state p k s ls o c) ≡ Ok (text_state p k t ls o c)
+unfolding take_byte in_text
 more_step place b p k s t ls o c h = rw h refl
 
-pub char_step : (place b p : ℕ) (k : Bool) (s : Spelling) (v : ℕ) (ls : List Level) (o : Option OrderedJson) (c : List ℕ) → spell s b ≡ spelled.Char v → step place b (text_state p k s ls o c) ≡ Ok (text_state p k at.Between ls o (c ++ encode_utf8 v))
-unfolding step in_text
+pub char_step : (place b p : ℕ) (k : Bool) (s : Spelling) (v : ℕ) (ls : List Level) (o : Option OrderedJson) (c : List ℕ) → spell s b ≡ spelled.Char v → take_byte place b (text_state p k s ls o c) ≡ Ok (text_state p k at.Between ls o (c ++ encode_utf8 v))
+unfolding take_byte in_text
 char_step place b p k s v ls o c h = rw h refl
 
 -- from here these bytes spell the character
@@ -256,11 +257,11 @@ char_spells (escaped b) h = escaped_spells b h
 char_spells (coded u) h = coded_spells u h
 char_spells (paired u v) h = paired_spells u v h
 
-pub chars_read : (cs : List Char) → AreChars cs → {p q : ℕ} {k : Bool} {rest : List ℕ} {ls : List Level} {o : Option OrderedJson} {c : List ℕ} {x : Answer} → Answers (p + length (print_chars cs)) rest (Ok (text_state q k at.Between ls o (c ++ content cs))) x → Answers p (print_chars cs ++ rest) (Ok (text_state q k at.Between ls o c)) x
+pub chars_read : (cs : List Char) → AreChars cs → {p q : ℕ} {k : Bool} {rest : List ℕ} {ls : List Level} {o : Option OrderedJson} {c : List ℕ} {x : Answer} → Answers (p + length (print_chars cs)) rest (Ok (text_state q k at.Between ls o (c ++ string_content cs))) x → Answers p (print_chars cs ++ rest) (Ok (text_state q k at.Between ls o c)) x
 chars_read [] h {p} {q} {k} {ls = ls} {o = o} {c = c} a = by_place {q = p + 0} (omega arith) (by_same (ap (λ d. Ok (text_state q k at.Between ls o d)) (sym (append-nil c))) a)
 chars_read (d ∷ ds) h {p} {q} {k} {rest} {ls} {o} {c} a =
     by_bytes (append_assoc (print_char d) (print_chars ds) rest)
     (spells_read (char_spells d h.0)
     (chars_read ds h.1
     (by_place {q = p + length (print_chars (d ∷ ds))} (omega (arith, length-append (print_char d) (print_chars ds)))
-    (by_same (ap (λ e. Ok (text_state q k at.Between ls o e)) (append_assoc c (encode_utf8 (char_value d)) (content ds))) a))))
+    (by_same (ap (λ e. Ok (text_state q k at.Between ls o e)) (append_assoc c (encode_utf8 (char_value d)) (string_content ds))) a))))

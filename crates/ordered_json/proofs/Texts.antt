@@ -3,6 +3,7 @@ use Rattle.std.proofs.Common.{◌≡◌, [], ◌∷◌, ◌++◌, ℕ, suc, ◌+
 use Rattle.std.specs.Prelude.{nat_lt}
 use Rattle.std.proofs.lemmas.Bool.Decides.{nat_tests}
 use Rattle.std.proofs.lemmas.List.{map-append}
+use Rattle.ordered_json.specs.declared.TheConstants.{MAX_LEVELS}
 use Rattle.ordered_json.specs.declared.fault.JsonFault.{JsonFault}
 use Rattle.ordered_json.specs.declared.fault.JsonFault.TheVariants.{DoubleKey, Fraction, Range, TooDeep}
 use Rattle.ordered_json.specs.declared.json.Member.{Member}
@@ -11,10 +12,10 @@ use Rattle.ordered_json.specs.declared.level.Level.{Level}
 use Rattle.ordered_json.specs.declared.level.Level.TheVariants as level
 use Rattle.ordered_json.specs.declared.mode.Mode.TheVariants as mode
 use Rattle.ordered_json.specs.Words.{key_of, member_of}
-use Rattle.ordered_json.specs.Grammar.{Char, AreChars, IsSpace, signed, print_string, Tree, null, boolean, number, string, array, object, Elements, no_elements, element, Members, no_members, member, print, print_elements, print_members, lead, colon, IsTree, AreElements, AreMembers, IsPrinted}
-use Rattle.ordered_json.specs.Meaning.{magnitude, fits, content, value_at, items_at, members_at, has_key, max_depth, IsTaken, ElementsTaken, MembersTaken}
+use Rattle.ordered_json.specs.Grammar.{Char, AreChars, IsSpace, signed, print_string, Tree, null, boolean, number, string, array, object, Elements, no_elements, element, Members, no_members, member, print, print_elements, print_members, lead, key_end, IsTree, AreElements, AreMembers, IsPrinted}
+use Rattle.ordered_json.specs.Meaning.{magnitude, fits, string_content, value_at, items_at, members_at, has_key, IsTaken, ElementsTaken, MembersTaken}
 use Rattle.ordered_json.specs.Faults.{is_mark, EndsNumber}
-use Rattle.ordered_json.specs.Steps.{step, settle, answer, start}
+use Rattle.ordered_json.specs.Steps.{take_byte, settle, reader_answer, start}
 use Rattle.ordered_json.proofs.Keys.{key_of-member_of}
 use Rattle.ordered_json.proofs.Runs.{Answers, by_step, by_same, by_place, by_bytes, by_fault}
 use Rattle.ordered_json.proofs.States.{state, Ready, finished, awaiting}
@@ -56,10 +57,10 @@ number_tree f minus ds (b ∷ bs) exponent p rest ls o x h r ends a =
     )
 
 -- ---- arrays
-deeper : (n : ℕ) → nat_lt n max_depth ≡ false → n < max_depth → ⊥
-deeper n h l = let t : nat_lt n max_depth ≡ true = grind (arith, nat_tests) in let clash : true ≡ false = sym t ∙ h in cc
+deeper : (n : ℕ) → nat_lt n MAX_LEVELS ≡ false → n < MAX_LEVELS → ⊥
+deeper n h l = let t : nat_lt n MAX_LEVELS ≡ true = grind (arith, nat_tests) in let clash : true ≡ false = sym t ∙ h in cc
 
-array_from : (f : Bool) (es : Elements) (p : ℕ) (rest : List ℕ) (ls : List Level) (o : Option OrderedJson) (x : Answer) (room : Bool) → nat_lt (length ls) max_depth ≡ room → Reads (ElementsTaken (suc (length ls)) es) (p + 1) (print_elements [] es ++ rest) (Ok (state mode.FirstItem (level.List p [] ∷ ls) o)) x → Reads (IsTaken (length ls) (array es)) p (print (array es) ++ rest) (Ok (state (awaiting f) ls o)) x
+array_from : (f : Bool) (es : Elements) (p : ℕ) (rest : List ℕ) (ls : List Level) (o : Option OrderedJson) (x : Answer) (room : Bool) → nat_lt (length ls) MAX_LEVELS ≡ room → Reads (ElementsTaken (suc (length ls)) es) (p + 1) (print_elements [] es ++ rest) (Ok (state mode.FirstItem (level.List p [] ∷ ls) o)) x → Reads (IsTaken (length ls) (array es)) p (print (array es) ++ rest) (Ok (state (awaiting f) ls o)) x
 array_from f es p rest ls o x true e (inl a) = inl (by_step (list_opens f p ls o e) a)
 array_from f es p rest ls o x true e (inr b) = inr (λ taken. b.0 taken.1, b.1, b.2, by_step (list_opens f p ls o e) b.3)
 array_from f es p rest ls o x false e reads = inr (λ taken. deeper (length ls) e taken.0, TooDeep p, tt, by_step (list_too_deep f p ls o e) (by_fault refl))
@@ -86,7 +87,7 @@ element_from f s s' t es p rest q items ls o x h h' tree (inr c) = led (tree (Er
     led (inr b) = inr (λ taken. b.0 taken.0, b.1, b.2, by_bytes (element_bytes (lead s (comma_of f) s') (print t) (print_elements (44 ∷ []) es) rest) (list_lead f s s' h h' b.3))
 
 -- ---- objects
-object_from : (f : Bool) (ms : Members) (p : ℕ) (rest : List ℕ) (ls : List Level) (o : Option OrderedJson) (x : Answer) (room : Bool) → nat_lt (length ls) max_depth ≡ room → Reads (MembersTaken (suc (length ls)) [] ms) (p + 1) (print_members [] ms ++ rest) (Ok (state mode.FirstKey (level.Object p [] ∷ ls) o)) x → Reads (IsTaken (length ls) (object ms)) p (print (object ms) ++ rest) (Ok (state (awaiting f) ls o)) x
+object_from : (f : Bool) (ms : Members) (p : ℕ) (rest : List ℕ) (ls : List Level) (o : Option OrderedJson) (x : Answer) (room : Bool) → nat_lt (length ls) MAX_LEVELS ≡ room → Reads (MembersTaken (suc (length ls)) [] ms) (p + 1) (print_members [] ms ++ rest) (Ok (state mode.FirstKey (level.Object p [] ∷ ls) o)) x → Reads (IsTaken (length ls) (object ms)) p (print (object ms) ++ rest) (Ok (state (awaiting f) ls o)) x
 object_from f ms p rest ls o x true e (inl a) = inl (by_step (object_opens f p ls o e) a)
 object_from f ms p rest ls o x true e (inr b) = inr (λ taken. b.0 taken.1, b.1, b.2, by_step (object_opens f p ls o e) b.3)
 object_from f ms p rest ls o x false e reads = inr (λ taken. deeper (length ls) e taken.0, TooDeep p, tt, by_step (object_too_deep f p ls o e) (by_fault refl))
@@ -105,33 +106,33 @@ abbrev key_at : Bool → ℕ → List ℕ → List ℕ → ℕ
 key_at f p s s' = p + length (lead s (comma_of f) s')
 
 abbrev value_from : Bool → ℕ → List ℕ → List ℕ → List Char → List ℕ → List ℕ → ℕ
-value_from f p s s' k r r' = key_at f p s s' + length (print_string k ++ colon r r')
+value_from f p s s' k r r' = key_at f p s s' + length (print_string k ++ key_end r r')
 
-member_from : (f : Bool) (s s' : List ℕ) (k : List Char) (r r' : List ℕ) (t : Tree) (ms : Members) (p : ℕ) (rest : List ℕ) (q : ℕ) (before : List Member) (ls : List Level) (o : Option OrderedJson) (x : Answer) (known : Bool) → has_key (content k) (map key_of before) ≡ known → IsSpace s → IsSpace s' → AreChars k → IsSpace r → IsSpace r'
-    → ((y : Answer) → Answers (value_from f p s s' k r r' + length (print t)) (print_members (44 ∷ []) ms ++ rest) (Ok (state mode.After (level.Object q (before ++ member_of (content k) (key_at f p s s') (value_at (value_from f p s s' k r r') t) ∷ []) ∷ ls) o)) y → Reads (IsTaken (suc (length ls)) t) (value_from f p s s' k r r') (print t ++ (print_members (44 ∷ []) ms ++ rest)) (Ok (state mode.Value (level.Member q before (content k) (key_at f p s s') ∷ ls) o)) y)
-    → Reads (MembersTaken (suc (length ls)) (map key_of before ++ content k ∷ []) ms) (value_from f p s s' k r r' + length (print t)) (print_members (44 ∷ []) ms ++ rest) (Ok (state mode.After (level.Object q (before ++ member_of (content k) (key_at f p s s') (value_at (value_from f p s s' k r r') t) ∷ []) ∷ ls) o)) x
+member_from : (f : Bool) (s s' : List ℕ) (k : List Char) (r r' : List ℕ) (t : Tree) (ms : Members) (p : ℕ) (rest : List ℕ) (q : ℕ) (before : List Member) (ls : List Level) (o : Option OrderedJson) (x : Answer) (known : Bool) → has_key (string_content k) (map key_of before) ≡ known → IsSpace s → IsSpace s' → AreChars k → IsSpace r → IsSpace r'
+    → ((y : Answer) → Answers (value_from f p s s' k r r' + length (print t)) (print_members (44 ∷ []) ms ++ rest) (Ok (state mode.After (level.Object q (before ++ member_of (string_content k) (key_at f p s s') (value_at (value_from f p s s' k r r') t) ∷ []) ∷ ls) o)) y → Reads (IsTaken (suc (length ls)) t) (value_from f p s s' k r r') (print t ++ (print_members (44 ∷ []) ms ++ rest)) (Ok (state mode.Value (level.Member q before (string_content k) (key_at f p s s') ∷ ls) o)) y)
+    → Reads (MembersTaken (suc (length ls)) (map key_of before ++ string_content k ∷ []) ms) (value_from f p s s' k r r' + length (print t)) (print_members (44 ∷ []) ms ++ rest) (Ok (state mode.After (level.Object q (before ++ member_of (string_content k) (key_at f p s s') (value_at (value_from f p s s' k r r') t) ∷ []) ∷ ls) o)) x
     → Reads (MembersTaken (suc (length ls)) (map key_of before) (member s s' k r r' t ms)) p (print_members (comma_of f) (member s s' k r r' t ms) ++ rest) (Ok (state (object_mode f) (level.Object q before ∷ ls) o)) x
 member_from f s s' k r r' t ms p rest q before ls o x true e h h' hk hr hr' tree reads =
     inr (
       λ taken. (let clash : true ≡ false = sym e ∙ taken.0 in cc),
       DoubleKey (key_at f p s s'),
       tt,
-      by_bytes (member_bytes (lead s (comma_of f) s') (print_string k) (colon r r') (print t) (print_members (44 ∷ []) ms) rest)
-          (object_lead f s s' h h' (key_refused f k (colon r r' ++ (print t ++ (print_members (44 ∷ []) ms ++ rest))) hk e)),
+      by_bytes (member_bytes (lead s (comma_of f) s') (print_string k) (key_end r r') (print t) (print_members (44 ∷ []) ms) rest)
+          (object_lead f s s' h h' (key_refused f k (key_end r r' ++ (print t ++ (print_members (44 ∷ []) ms ++ rest))) hk e)),
     )
 member_from f s s' k r r' t ms p rest q before ls o x false e h h' hk hr hr' tree reads = chosen reads
   where
-    goes : (y : Answer) → Answers (value_from f p s s' k r r') (print t ++ (print_members (44 ∷ []) ms ++ rest)) (Ok (state mode.Value (level.Member q before (content k) (key_at f p s s') ∷ ls) o)) y → Answers p (print_members (comma_of f) (member s s' k r r' t ms) ++ rest) (Ok (state (object_mode f) (level.Object q before ∷ ls) o)) y
+    goes : (y : Answer) → Answers (value_from f p s s' k r r') (print t ++ (print_members (44 ∷ []) ms ++ rest)) (Ok (state mode.Value (level.Member q before (string_content k) (key_at f p s s') ∷ ls) o)) y → Answers p (print_members (comma_of f) (member s s' k r r' t ms) ++ rest) (Ok (state (object_mode f) (level.Object q before ∷ ls) o)) y
     goes y a =
-        by_bytes (member_bytes (lead s (comma_of f) s') (print_string k) (colon r r') (print t) (print_members (44 ∷ []) ms) rest)
-        (object_lead f s s' h h' (key_read f k hk e (colon_read r r' hr hr' (by_place {q = value_from f p s s' k r r'} (omega (arith, length-append (print_string k) (colon r r'))) a))))
+        by_bytes (member_bytes (lead s (comma_of f) s') (print_string k) (key_end r r') (print t) (print_members (44 ∷ []) ms) rest)
+        (object_lead f s s' h h' (key_read f k hk e (colon_read r r' hr hr' (by_place {q = value_from f p s s' k r r'} (omega (arith, length-append (print_string k) (key_end r r'))) a))))
 
-    led : (y : Answer) → ((MembersTaken (suc (length ls)) (map key_of before) (member s s' k r r' t ms) → ⊥) × (fault : JsonFault) × IsRefusal fault × (y ≡ Err fault)) ⊎ (y ≡ x) → Reads (IsTaken (suc (length ls)) t) (value_from f p s s' k r r') (print t ++ (print_members (44 ∷ []) ms ++ rest)) (Ok (state mode.Value (level.Member q before (content k) (key_at f p s s') ∷ ls) o)) y → Reads (MembersTaken (suc (length ls)) (map key_of before) (member s s' k r r' t ms)) p (print_members (comma_of f) (member s s' k r r' t ms) ++ rest) (Ok (state (object_mode f) (level.Object q before ∷ ls) o)) x
+    led : (y : Answer) → ((MembersTaken (suc (length ls)) (map key_of before) (member s s' k r r' t ms) → ⊥) × (fault : JsonFault) × IsRefusal fault × (y ≡ Err fault)) ⊎ (y ≡ x) → Reads (IsTaken (suc (length ls)) t) (value_from f p s s' k r r') (print t ++ (print_members (44 ∷ []) ms ++ rest)) (Ok (state mode.Value (level.Member q before (string_content k) (key_at f p s s') ∷ ls) o)) y → Reads (MembersTaken (suc (length ls)) (map key_of before) (member s s' k r r' t ms)) p (print_members (comma_of f) (member s s' k r r' t ms) ++ rest) (Ok (state (object_mode f) (level.Object q before ∷ ls) o)) x
     led y why (inr b) = inr (λ taken. b.0 taken.1, b.1, b.2, goes (Err b.1) b.3)
     led y (inl w) (inl b) = inr (w.0, w.1, w.2, subst (λ z. Answers p (print_members (comma_of f) (member s s' k r r' t ms) ++ rest) (Ok (state (object_mode f) (level.Object q before ∷ ls) o)) z) w.3 (goes y b))
     led y (inr w) (inl b) = inl (subst (λ z. Answers p (print_members (comma_of f) (member s s' k r r' t ms) ++ rest) (Ok (state (object_mode f) (level.Object q before ∷ ls) o)) z) w (goes y b))
 
-    chosen : Reads (MembersTaken (suc (length ls)) (map key_of before ++ content k ∷ []) ms) (value_from f p s s' k r r' + length (print t)) (print_members (44 ∷ []) ms ++ rest) (Ok (state mode.After (level.Object q (before ++ member_of (content k) (key_at f p s s') (value_at (value_from f p s s' k r r') t) ∷ []) ∷ ls) o)) x → Reads (MembersTaken (suc (length ls)) (map key_of before) (member s s' k r r' t ms)) p (print_members (comma_of f) (member s s' k r r' t ms) ++ rest) (Ok (state (object_mode f) (level.Object q before ∷ ls) o)) x
+    chosen : Reads (MembersTaken (suc (length ls)) (map key_of before ++ string_content k ∷ []) ms) (value_from f p s s' k r r' + length (print t)) (print_members (44 ∷ []) ms ++ rest) (Ok (state mode.After (level.Object q (before ++ member_of (string_content k) (key_at f p s s') (value_at (value_from f p s s' k r r') t) ∷ []) ∷ ls) o)) x → Reads (MembersTaken (suc (length ls)) (map key_of before) (member s s' k r r' t ms)) p (print_members (comma_of f) (member s s' k r r' t ms) ++ rest) (Ok (state (object_mode f) (level.Object q before ∷ ls) o)) x
     chosen (inl a) = led x (inr refl) (tree x a)
     chosen (inr c) = led (Err c.1) (inl (λ taken. c.0 taken.2, c.1, c.2, refl)) (tree (Err c.1) c.3)
 
@@ -144,10 +145,10 @@ mutual
   tree_read (number minus ds fraction exponent) f p rest ls o x h r ends a = number_tree f minus ds fraction exponent p rest ls o x h r ends a
   tree_read (string cs) f p rest ls o x h r ends a = inl (string_read f cs h r a)
   tree_read (array es) f p rest ls o x h r ends a =
-      array_from f es p rest ls o x (nat_lt (length ls) max_depth) refl
+      array_from f es p rest ls o x (nat_lt (length ls) MAX_LEVELS) refl
       (elements_read es true (p + 1) rest ls o p [] x h r (by_place {q = p + length (print (array es))} (omega arith) a))
   tree_read (object ms) f p rest ls o x h r ends a =
-      object_from f ms p rest ls o x (nat_lt (length ls) max_depth) refl
+      object_from f ms p rest ls o x (nat_lt (length ls) MAX_LEVELS) refl
       (members_read ms true (p + 1) rest ls o p [] x h r (by_place {q = p + length (print (object ms))} (omega arith) a))
 
   pub elements_read : (es : Elements) (f : Bool) (p : ℕ) (rest : List ℕ) (ls : List Level) (o : Option OrderedJson) (q : ℕ) (items : List OrderedJson) (x : Answer) → AreElements es → Ready ls → Answers (p + length (print_elements (comma_of f) es)) rest (Ok (finished (a_list q (items ++ items_at p (comma_of f) es)) ls o)) x → Reads (ElementsTaken (suc (length ls)) es) p (print_elements (comma_of f) es ++ rest) (Ok (state (list_mode f) (level.List q items ∷ ls) o)) x
@@ -173,18 +174,18 @@ mutual
       (by_same (ap (λ js. Ok (finished (Object q js) ls o)) (sym (append-nil before))) a)))))
   members_read (member s s' k c c' t ms) f p rest ls o q before x h r a =
       let start = value_from f p s s' k c c' in
-      let m = member_of (content k) (key_at f p s s') (value_at start t) in
-      let keys : map key_of (before ++ m ∷ []) ≡ map key_of before ++ content k ∷ [] = map-append key_of before (m ∷ []) ∙ ap (λ n. map key_of before ++ n ∷ []) (key_of-member_of (content k) (key_at f p s s') (value_at start t)) in
-      member_from f s s' k c c' t ms p rest q before ls o x (has_key (content k) (map key_of before)) refl h.0 h.1 h.2 h.3 h.4
-      (λ y b. tree_read t false start (print_members (44 ∷ []) ms ++ rest) (level.Member q before (content k) (key_at f p s s') ∷ ls) o y h.5 r (ends_members ms rest h.6) b)
+      let m = member_of (string_content k) (key_at f p s s') (value_at start t) in
+      let keys : map key_of (before ++ m ∷ []) ≡ map key_of before ++ string_content k ∷ [] = map-append key_of before (m ∷ []) ∙ ap (λ n. map key_of before ++ n ∷ []) (key_of-member_of (string_content k) (key_at f p s s') (value_at start t)) in
+      member_from f s s' k c c' t ms p rest q before ls o x (has_key (string_content k) (map key_of before)) refl h.0 h.1 h.2 h.3 h.4
+      (λ y b. tree_read t false start (print_members (44 ∷ []) ms ++ rest) (level.Member q before (string_content k) (key_at f p s s') ∷ ls) o y h.5 r (ends_members ms rest h.6) b)
       (subst (λ ks. Reads (MembersTaken (suc (length ls)) ks ms) (start + length (print t)) (print_members (44 ∷ []) ms ++ rest) (Ok (state mode.After (level.Object q (before ++ m ∷ []) ∷ ls) o)) x) keys
       (members_read ms false (start + length (print t)) rest ls o q (before ++ m ∷ []) x h.6 r
-      (by_place {q = p + length (print_members (comma_of f) (member s s' k c c' t ms))} (omega (arith, member_length (lead s (comma_of f) s') (print_string k) (colon c c') (print t) (print_members (44 ∷ []) ms), length-append (print_string k) (colon c c')))
+      (by_place {q = p + length (print_members (comma_of f) (member s s' k c c' t ms))} (omega (arith, member_length (lead s (comma_of f) s') (print_string k) (key_end c c') (print t) (print_members (44 ∷ []) ms), length-append (print_string k) (key_end c c')))
       (by_same (ap (λ js. Ok (finished (Object q js) ls o)) (append_assoc before (m ∷ []) (members_at (start + length (print t)) (44 ∷ []) ms))) a))))
 
 -- ---- a text
 after_waits : Waits mode.After
-unfolding step
+unfolding take_byte
 after_waits = λ place b ls o. refl
 
 text_ends : (place : ℕ) (json : OrderedJson) → Answers place [] (Ok (finished json [] None)) (Ok json)
@@ -209,9 +210,9 @@ text_read text before tree after h = opened (tree_read tree false (length before
     opened (inr b) = inr (b.0, b.1, b.2, goes (Err b.1) b.3)
 
 -- the reader's answer to a JSON text is its value, or a refusal of something that is not taken
-pub answers_json : (text before : List ℕ) (tree : Tree) (after : List ℕ) → IsPrinted text before tree after → (answer text ≡ Ok (value_at (length before) tree)) ⊎ ((IsTaken 0 tree → ⊥) × (fault : JsonFault) × IsRefusal fault × (answer text ≡ Err fault))
+pub answers_json : (text before : List ℕ) (tree : Tree) (after : List ℕ) → IsPrinted text before tree after → (reader_answer text ≡ Ok (value_at (length before) tree)) ⊎ ((IsTaken 0 tree → ⊥) × (fault : JsonFault) × IsRefusal fault × (reader_answer text ≡ Err fault))
 answers_json text before tree after h = plainly (text_read text before tree after h)
   where
-    plainly : Reads (IsTaken 0 tree) 0 text (Ok start) (Ok (value_at (length before) tree)) → (answer text ≡ Ok (value_at (length before) tree)) ⊎ ((IsTaken 0 tree → ⊥) × (fault : JsonFault) × IsRefusal fault × (answer text ≡ Err fault))
+    plainly : Reads (IsTaken 0 tree) 0 text (Ok start) (Ok (value_at (length before) tree)) → (reader_answer text ≡ Ok (value_at (length before) tree)) ⊎ ((IsTaken 0 tree → ⊥) × (fault : JsonFault) × IsRefusal fault × (reader_answer text ≡ Err fault))
     plainly (inl a) = inl a.is
     plainly (inr b) = inr (b.0, b.1, b.2, b.3.is)

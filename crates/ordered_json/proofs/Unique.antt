@@ -4,6 +4,7 @@ use Rattle.std.specs.Prelude.{nat_lt}
 use Rattle.std.proofs.Math.Seq.{take-append_seam, take-append-add}
 use Rattle.std.proofs.lemmas.List.{take-append-drop, length-take-le, take-append-le}
 use Rattle.std.proofs.lemmas.Bool.Decides.{nat_tests}
+use Rattle.ordered_json.specs.declared.TheConstants.{MAX_TEXT, MAX_LEVELS}
 use Rattle.ordered_json.specs.declared.fault.JsonFault.{JsonFault}
 use Rattle.ordered_json.specs.declared.fault.JsonFault.TheVariants.{Syntax, DoubleKey, Fraction, Range, TooDeep, TooLong, Memory}
 use Rattle.ordered_json.specs.declared.json.Member.{Member}
@@ -15,14 +16,15 @@ use Rattle.ordered_json.specs.declared.mode.Mode.TheVariants as mode
 use Rattle.ordered_json.specs.declared.mode.Spelled.TheVariants as spelled
 use Rattle.ordered_json.specs.declared.mode.Spelling.{Spelling}
 use Rattle.ordered_json.specs.declared.mode.Spelling.TheVariants as at
-use Rattle.ordered_json.specs.declared.mode.Word.{Word}
-use Rattle.ordered_json.specs.declared.mode.Word.TheVariants as word
+use Rattle.ordered_json.specs.declared.mode.LiteralName.{LiteralName}
+use Rattle.ordered_json.specs.declared.mode.LiteralName.TheVariants as literal
 use Rattle.ordered_json.specs.declared.reader.Reader.{Reader}
 use Rattle.ordered_json.specs.Words.{key_of}
 use Rattle.ordered_json.specs.Grammar.{is_decimal, Char, AreChars, IsWhole, signed, print_chars, print_string, number, array, object, no_elements, no_members, Tree, IsTree, print, IsJson}
-use Rattle.ordered_json.specs.Meaning.{magnitude, int_value, fits, content, has_key, max_depth, max_len, IsTaken, HasValue, Means}
+use Rattle.ordered_json.specs.Meaning.{magnitude, int_value, fits, string_content, has_key, IsTaken, HasValue, Means}
 use Rattle.ordered_json.specs.Faults.{Begins, BeginsFaultless, AwaitsValue, AwaitsKey, HasSyntaxFault, HasDoubleKey, is_mark, BeginsWithMark, HasFraction, IsOutOfRange, IsTooDeep, HasFault}
-use Rattle.ordered_json.specs.Steps.{Outcome, after_minus, complete, word_value, go, answer, answer_from, between, after_digits, step, in_word, in_text, letter_at, word_text, is_second, spell, start, and_then}
+use Rattle.ordered_json.specs.Steps.{Reading, after_minus, complete, literal_value, go, reader_answer, answer_from, between, after_digits, take_byte, in_name, in_text, letter_at, literal_letters, start, and_then, open_name, open_number}
+use Rattle.ordered_json.specs.Spell.{is_second, spell}
 use Rattle.ordered_json.proofs.Runs.{Answers, by_step, by_bytes, by_fault}
 use Rattle.ordered_json.proofs.States.{state, Ready, finished, levels_with, root_with, awaiting}
 use Rattle.ordered_json.proofs.Accept.{Answer}
@@ -31,9 +33,9 @@ use Rattle.ordered_json.proofs.Strings.{text_state, below}
 use Rattle.ordered_json.proofs.Trees.{string_read, key_mode, key_refused, list_too_deep, object_too_deep}
 use Rattle.ordered_json.proofs.Reached.{Awaits, KeyAwaits, awaits-ready, faultless-front, plug, plug_json, plug_key}
 use Rattle.ordered_json.proofs.Values.{after_all, after_item, after_entry, named_faultless}
-use Rattle.ordered_json.proofs.Judged.{Reached, r_value, r_first_item, r_first_key, r_key, r_colon, r_after, r_word, r_minus, r_zero, r_digits, r_text, r_key_text, Judges, first_awaits, first_key_awaits}
+use Rattle.ordered_json.proofs.Judged.{Reached, r_value, r_first_item, r_first_key, r_key, r_colon, r_after, r_name, r_minus, r_zero, r_digits, r_text, r_key_text, Judges, first_awaits, first_key_awaits}
 use Rattle.ordered_json.proofs.Soundness.{reached_step}
-use Rattle.ordered_json.proofs.Verdict.{answer-value, Follows, Says, answer_says, stops}
+use Rattle.ordered_json.proofs.Verdict.{reader_answer-value, Follows, Says, answer_says, stops}
 
 -- ---- the reader after the beginning of a text with a value
 record Live (text tail : List ℕ) (json : OrderedJson) : Type 0 where
@@ -42,44 +44,44 @@ record Live (text tail : List ℕ) (json : OrderedJson) : Type 0 where
   follows : Follows text r
   goes : answer_from (length text) tail (Ok r) ≡ Ok json
 
-follows-snoc : (text : List ℕ) (b : ℕ) (r s : Reader) → Follows text r → step (length text) b r ≡ Ok s → Follows (text ++ b ∷ []) s
-follows-snoc text b r s f e = λ more. ap answer (append_assoc text (b ∷ []) more) ∙ (f (b ∷ more) ∙ (ap (answer_from (length text + 1) more) e ∙ ap (λ n. answer_from n more (Ok s)) (sym (length-append text (b ∷ [])))))
+follows-snoc : (text : List ℕ) (b : ℕ) (r s : Reader) → Follows text r → take_byte (length text) b r ≡ Ok s → Follows (text ++ b ∷ []) s
+follows-snoc text b r s f e = λ more. ap reader_answer (append_assoc text (b ∷ []) more) ∙ (f (b ∷ more) ∙ (ap (answer_from (length text + 1) more) e ∙ ap (λ n. answer_from n more (Ok s)) (sym (length-append text (b ∷ [])))))
 
-live-on : (text : List ℕ) (b : ℕ) (front tail : List ℕ) (json : OrderedJson) (r : Reader) (o : Outcome) → Follows text r → Reached text r → step (length text) b r ≡ o → answer (text ++ b ∷ (front ++ tail)) ≡ Ok json
-    → ((s : Reader) → Reached (text ++ b ∷ []) s → Follows (text ++ b ∷ []) s → answer ((text ++ b ∷ []) ++ (front ++ tail)) ≡ Ok json → Live ((text ++ b ∷ []) ++ front) tail json) → Live (text ++ b ∷ front) tail json
+live-on : (text : List ℕ) (b : ℕ) (front tail : List ℕ) (json : OrderedJson) (r : Reader) (o : Reading) → Follows text r → Reached text r → take_byte (length text) b r ≡ o → reader_answer (text ++ b ∷ (front ++ tail)) ≡ Ok json
+    → ((s : Reader) → Reached (text ++ b ∷ []) s → Follows (text ++ b ∷ []) s → reader_answer ((text ++ b ∷ []) ++ (front ++ tail)) ≡ Ok json → Live ((text ++ b ∷ []) ++ front) tail json) → Live (text ++ b ∷ front) tail json
 live-on text b front tail json r (Err fault) f h e a next = let clash : ◌≡◌ {A = Answer} (Ok json) (Err fault) = sym a ∙ stops text b r fault f e (front ++ tail) in absurd (let no : ⊥ = cc in no)
 live-on text b front tail json r (Ok s) f h e a next =
     subst (λ w. Live w tail json) (append_assoc text (b ∷ []) front)
-    (next s (let P = reached_step text b r h in subst (λ o. Judges text b o) e P) (follows-snoc text b r s f e) (ap answer (append_assoc text (b ∷ []) (front ++ tail)) ∙ a))
+    (next s (let P = reached_step text b r h in subst (λ o. Judges text b o) e P) (follows-snoc text b r s f e) (ap reader_answer (append_assoc text (b ∷ []) (front ++ tail)) ∙ a))
 
-live : (front text tail : List ℕ) (json : OrderedJson) (r : Reader) → Reached text r → Follows text r → answer (text ++ (front ++ tail)) ≡ Ok json → Live (text ++ front) tail json
+live : (front text tail : List ℕ) (json : OrderedJson) (r : Reader) → Reached text r → Follows text r → reader_answer (text ++ (front ++ tail)) ≡ Ok json → Live (text ++ front) tail json
 live [] text tail json r h f a = subst (λ w. Live w tail json) (sym (append-nil text)) (record { r = r; reached = h; follows = f; goes = sym (f tail) ∙ a })
-live (b ∷ front) text tail json r h f a = live-on text b front tail json r (step (length text) b r) f h refl a (λ s g k e. live front (text ++ b ∷ []) tail json s g k e)
+live (b ∷ front) text tail json r h f a = live-on text b front tail json r (take_byte (length text) b r) f h refl a (λ s g k e. live front (text ++ b ∷ []) tail json s g k e)
 
 live_of : (text tail : List ℕ) (json : OrderedJson) → HasValue (text ++ tail) json → Live text tail json
-live_of text tail json h = live text [] tail json start (r_value tt) (λ rest. refl) (answer-value (text ++ tail) json h)
+live_of text tail json h = live text [] tail json start (r_value tt) (λ rest. refl) (reader_answer-value (text ++ tail) json h)
 
 never : (p : ℕ) (bytes : List ℕ) (r : Reader) {json : OrderedJson} {fault : JsonFault} → answer_from p bytes (Ok r) ≡ Ok json → Answers p bytes (Ok r) (Err fault) → ⊥
 never p bytes r {json} {fault} e a = let clash : ◌≡◌ {A = Answer} (Ok json) (Err fault) = sym e ∙ a.is in cc
 
 -- ---- a line feed stands only between tokens
-no_letter : (w : Word) (n : ℕ) → 10 == letter_at (word_text w) n ≡ false
-no_letter word.Null zero = refl
-no_letter word.Null (suc zero) = refl
-no_letter word.Null (suc (suc zero)) = refl
-no_letter word.Null (suc (suc (suc zero))) = refl
-no_letter word.Null (suc (suc (suc (suc n)))) = refl
-no_letter word.True zero = refl
-no_letter word.True (suc zero) = refl
-no_letter word.True (suc (suc zero)) = refl
-no_letter word.True (suc (suc (suc zero))) = refl
-no_letter word.True (suc (suc (suc (suc n)))) = refl
-no_letter word.False zero = refl
-no_letter word.False (suc zero) = refl
-no_letter word.False (suc (suc zero)) = refl
-no_letter word.False (suc (suc (suc zero))) = refl
-no_letter word.False (suc (suc (suc (suc zero)))) = refl
-no_letter word.False (suc (suc (suc (suc (suc n))))) = refl
+no_letter : (w : LiteralName) (n : ℕ) → 10 == letter_at w n ≡ false
+no_letter literal.Null zero = refl
+no_letter literal.Null (suc zero) = refl
+no_letter literal.Null (suc (suc zero)) = refl
+no_letter literal.Null (suc (suc (suc zero))) = refl
+no_letter literal.Null (suc (suc (suc (suc n)))) = refl
+no_letter literal.True zero = refl
+no_letter literal.True (suc zero) = refl
+no_letter literal.True (suc (suc zero)) = refl
+no_letter literal.True (suc (suc (suc zero))) = refl
+no_letter literal.True (suc (suc (suc (suc n)))) = refl
+no_letter literal.False zero = refl
+no_letter literal.False (suc zero) = refl
+no_letter literal.False (suc (suc zero)) = refl
+no_letter literal.False (suc (suc (suc zero))) = refl
+no_letter literal.False (suc (suc (suc (suc zero)))) = refl
+no_letter literal.False (suc (suc (suc (suc (suc n))))) = refl
 
 no_second : (a : ℕ) → is_second a 10 ≡ false
 no_second a = grind (arith, nat_tests)
@@ -101,21 +103,21 @@ no_feed (at.Lead1 a) = rw (no_second a) refl
 no_feed (at.Lead2 a b) = refl
 no_feed (at.Lead3 a b c) = refl
 
-text_stops : (place p : ℕ) (k : Bool) (s : Spelling) (ls : List Level) (o : Option OrderedJson) (c : List ℕ) → step place 10 (text_state p k s ls o c) ≡ Err (Syntax place)
-unfolding step in_text
+text_stops : (place p : ℕ) (k : Bool) (s : Spelling) (ls : List Level) (o : Option OrderedJson) (c : List ℕ) → take_byte place 10 (text_state p k s ls o c) ≡ Err (Syntax place)
+unfolding take_byte in_text
 text_stops place p k s ls o c = rw (no_feed s) refl
 
-word_stops : (place p : ℕ) (w : Word) (n : ℕ) (ls : List Level) (o : Option OrderedJson) → step place 10 (state (mode.Word p w n) ls o) ≡ Err (Syntax place)
-unfolding step in_word
-word_stops place p w n ls o = rw (no_letter w n) (by (nat_lt n (length (word_text w))))
+word_stops : (place p : ℕ) (w : LiteralName) (n : ℕ) (ls : List Level) (o : Option OrderedJson) → take_byte place 10 (state (mode.Name (open_name p w n)) ls o) ≡ Err (Syntax place)
+unfolding take_byte in_name
+word_stops place p w n ls o = rw (no_letter w n) (by (nat_lt n (length (literal_letters w))))
   where
-    by : (x : Bool) → cond (x && false) (cond (n + 1 == length (word_text w)) (complete place (word_value p w) (state (mode.Word p w n) ls o)) (go (mode.Word p w (n + 1)) (state (mode.Word p w n) ls o))) (Err (Syntax place)) ≡ Err (Syntax place)
+    by : (x : Bool) → cond (x && false) (cond (n + 1 == length (literal_letters w)) (complete place (literal_value p w) (state (mode.Name (open_name p w n)) ls o)) (go (mode.Name (open_name p w (n + 1))) (state (mode.Name (open_name p w n)) ls o))) (Err (Syntax place)) ≡ Err (Syntax place)
     by true = refl
     by false = refl
 
 -- the same after a number's digits
-number_stops : (p c : ℕ) (rest : List ℕ) (m : Mode) (ls : List Level) (q : ℕ) (minus : Bool) (n : ℕ) → IsNumberMode m q minus n → Ready ls → (step (p + 1) c (finished (Int q (int_value minus n)) ls None) ≡ Err (Syntax (p + 1))) → (fault : JsonFault) × Answers p (10 ∷ c ∷ rest) (Ok (state m ls None)) (Err fault)
-unfolding step between
+number_stops : (p c : ℕ) (rest : List ℕ) (m : Mode) (ls : List Level) (q : ℕ) (minus : Bool) (n : ℕ) → IsNumberMode m q minus n → Ready ls → (take_byte (p + 1) c (finished (Int q (int_value minus n)) ls None) ≡ Err (Syntax (p + 1))) → (fault : JsonFault) × Answers p (10 ∷ c ∷ rest) (Ok (state m ls None)) (Err fault)
+unfolding take_byte between
 number_stops p c rest m ls q minus n is ready e = by (fits minus n) refl
   where
     by : (x : Bool) → fits minus n ≡ x → (fault : JsonFault) × Answers p (10 ∷ c ∷ rest) (Ok (state m ls None)) (Err fault)
@@ -129,19 +131,19 @@ data Before (text : List ℕ) : Reader → Type 0 where
 
 -- a byte that goes on after neither a value nor a key
 record IsOpening (c : ℕ) : Type 0 where
-  after_colon : (p : ℕ) (ls : List Level) → step p c (state mode.Colon ls None) ≡ Err (Syntax p)
-  after_value : (p : ℕ) (ls : List Level) (o : Option OrderedJson) → step p c (state mode.After ls o) ≡ Err (Syntax p)
+  after_colon : (p : ℕ) (ls : List Level) → take_byte p c (state mode.Colon ls None) ≡ Err (Syntax p)
+  after_value : (p : ℕ) (ls : List Level) (o : Option OrderedJson) → take_byte p c (state mode.After ls o) ≡ Err (Syntax p)
 
 n_opens : IsOpening 110
-unfolding step between
+unfolding take_byte between
 n_opens = record { after_colon = λ p ls. refl; after_value = λ p ls o. refl }
 
 quote_opens : IsOpening 34
-unfolding step between
+unfolding take_byte between
 quote_opens = record { after_colon = λ p ls. refl; after_value = λ p ls o. refl }
 
 is_before : (text : List ℕ) (c : ℕ) (rest : List ℕ) (json : OrderedJson) (r : Reader) → IsOpening c → Reached text r → answer_from (length text) (10 ∷ c ∷ rest) (Ok r) ≡ Ok json → Before text r
-unfolding step between after_minus
+unfolding take_byte between after_minus
 is_before text c rest json r opens (r_value a) e = before_value false a
 is_before text c rest json r opens (r_first_item {ls} {p} f) e = before_value true {ls = level.List p [] ∷ ls} (first_awaits ls p text f)
 is_before text c rest json r opens (r_first_key {ls} {p} f) e = before_key true (first_key_awaits ls p text f)
@@ -150,37 +152,37 @@ is_before text c rest json r opens (r_colon {ls} {p} {members} {key} {key_at} a)
 is_before text c rest json r opens (r_after (after_all {json = j} h)) e = absurd (never (length text) (10 ∷ c ∷ rest) r e (by_step refl (by_step (opens.after_value (length text + 1) [] (Some j)) (by_fault refl))))
 is_before text c rest json r opens (r_after (after_item {ls} {p} {items} a)) e = absurd (never (length text) (10 ∷ c ∷ rest) r e (by_step refl (by_step (opens.after_value (length text + 1) (level.List p items ∷ ls) None) (by_fault refl))))
 is_before text c rest json r opens (r_after (after_entry {ls} {p} {members} a)) e = absurd (never (length text) (10 ∷ c ∷ rest) r e (by_step refl (by_step (opens.after_value (length text + 1) (level.Object p members ∷ ls) None) (by_fault refl))))
-is_before text c rest json r opens (r_word {ls} {p} {w} {n} h) e = absurd (never (length text) (10 ∷ c ∷ rest) r e (by_step (word_stops (length text) p w n ls None) (by_fault refl)))
+is_before text c rest json r opens (r_name {ls} {p} {w} {n} h) e = absurd (never (length text) (10 ∷ c ∷ rest) r e (by_step (word_stops (length text) p w n ls None) (by_fault refl)))
 is_before text c rest json r opens (r_minus h) e = absurd (never (length text) (10 ∷ c ∷ rest) r e (by_step refl (by_fault refl)))
 is_before text c rest json r opens (r_zero {ls} {p} {minus} h) e =
-    let s = number_stops (length text) c rest (mode.Zero p minus) ls p minus 0 (zero_mode p minus) (awaits-ready ls h.before h.stands) (opens.after_value (length text + 1) (levels_with (Int p (int_value minus 0)) ls) (root_with (Int p (int_value minus 0)) ls None)) in
+    let s = number_stops (length text) c rest (mode.Zero (open_number p minus 0)) ls p minus 0 (zero_mode p minus) (awaits-ready ls h.before h.stands) (opens.after_value (length text + 1) (levels_with (Int p (int_value minus 0)) ls) (root_with (Int p (int_value minus 0)) ls None)) in
     absurd (never (length text) (10 ∷ c ∷ rest) r e s.1)
 is_before text c rest json r opens (r_digits {ls} {p} {minus} d ds h n are) e =
     let k = magnitude (d ∷ ds) in
-    let s = number_stops (length text) c rest (mode.Digits p minus (sat k)) ls p minus k (digits_mode p minus k) (awaits-ready ls h.before h.stands) (opens.after_value (length text + 1) (levels_with (Int p (int_value minus k)) ls) (root_with (Int p (int_value minus k)) ls None)) in
+    let s = number_stops (length text) c rest (mode.Digits (open_number p minus (sat k))) ls p minus k (digits_mode p minus k) (awaits-ready ls h.before h.stands) (opens.after_value (length text + 1) (levels_with (Int p (int_value minus k)) ls) (root_with (Int p (int_value minus k)) ls None)) in
     absurd (never (length text) (10 ∷ c ∷ rest) r e s.1)
 is_before text c rest json r opens (r_text {ls} {p} {s} {c = d} h) e = absurd (never (length text) (10 ∷ c ∷ rest) r e (by_step (text_stops (length text) p false s ls None d) (by_fault refl)))
 is_before text c rest json r opens (r_key_text {ls} {q} {members} {p} {s} {c = d} h) e = absurd (never (length text) (10 ∷ c ∷ rest) r e (by_step (text_stops (length text) p true s (level.Object q members ∷ ls) None d) (by_fault refl)))
 
 -- ---- a key where a value is, and a value where a key is
 no_value : (f : Bool) (p : ℕ) (rest : List ℕ) (ls : List Level) → Answers p (10 ∷ 110 ∷ rest) (Ok (state (key_mode f) ls None)) (Err (Syntax (p + 1)))
-unfolding step between
+unfolding take_byte between
 no_value true p rest ls = by_step refl (by_step refl (by_fault refl))
 no_value false p rest ls = by_step refl (by_step refl (by_fault refl))
 
-blank_first : (f : Bool) (p : ℕ) (ls : List Level) → step p 10 (state (awaiting f) ls None) ≡ Ok (state (awaiting f) ls None)
-unfolding step between
+blank_first : (f : Bool) (p : ℕ) (ls : List Level) → take_byte p 10 (state (awaiting f) ls None) ≡ Ok (state (awaiting f) ls None)
+unfolding take_byte between
 blank_first true p ls = refl
 blank_first false p ls = refl
 
-colon_stops : (p : ℕ) (ls : List Level) (o : Option OrderedJson) → step p 58 (state mode.After ls o) ≡ Err (Syntax p)
-unfolding step between
+colon_stops : (p : ℕ) (ls : List Level) (o : Option OrderedJson) → take_byte p 58 (state mode.After ls o) ≡ Err (Syntax p)
+unfolding take_byte between
 colon_stops p ls o = refl
 
 no_colon : (f : Bool) (p : ℕ) (cs : List Char) (rest : List ℕ) (ls : List Level) → AreChars cs → Ready ls → Answers p (10 ∷ ((print_string cs ++ 58 ∷ []) ++ rest)) (Ok (state (awaiting f) ls None)) (Err (Syntax (p + 1 + length (print_string cs))))
 no_colon f p cs rest ls h r =
     by_step (blank_first f p ls) (by_bytes (append_assoc (print_string cs) (58 ∷ []) rest)
-    (string_read f cs h r (by_step (colon_stops (p + 1 + length (print_string cs)) (levels_with (Text (p + 1) (content cs)) ls) (root_with (Text (p + 1) (content cs)) ls None)) (by_fault refl))))
+    (string_read f cs h r (by_step (colon_stops (p + 1 + length (print_string cs)) (levels_with (Text (p + 1) (string_content cs)) ls) (root_with (Text (p + 1) (string_content cs)) ls None)) (by_fault refl))))
 
 -- ---- where a value and where a key may begin
 regroup : (text front rest : List ℕ) (json : OrderedJson) → HasValue ((text ++ front) ++ rest) json → HasValue (text ++ (front ++ rest)) json
@@ -228,53 +230,53 @@ split_at : (text rest : List ℕ) (p : ℕ) → drop p text ≡ rest → take p 
 split_at text rest p e = ap (λ w. take p text ++ w) (sym e) ∙ take-append-drop p text
 
 -- two outcomes of one text
-other_value : (text : List ℕ) (json : OrderedJson) (fault : JsonFault) → answer text ≡ Ok json → answer text ≡ Err fault → ⊥
+other_value : (text : List ℕ) (json : OrderedJson) (fault : JsonFault) → reader_answer text ≡ Ok json → reader_answer text ≡ Err fault → ⊥
 other_value text json fault a b = let clash : ◌≡◌ {A = Answer} (Ok json) (Err fault) = sym a ∙ b in cc
 
-answers_at : (text rest : List ℕ) (p : ℕ) (r : Reader) (fault : ℕ → JsonFault) → p ≤ length text → drop p text ≡ rest → Follows (take p text) r → Answers (length (take p text)) rest (Ok r) (Err (fault (length (take p text)))) → answer text ≡ Err (fault p)
+answers_at : (text rest : List ℕ) (p : ℕ) (r : Reader) (fault : ℕ → JsonFault) → p ≤ length text → drop p text ≡ rest → Follows (take p text) r → Answers (length (take p text)) rest (Ok r) (Err (fault (length (take p text)))) → reader_answer text ≡ Err (fault p)
 answers_at text rest p r fault within stands g a =
-    ap answer (sym (split_at text rest p stands)) ∙ (g rest ∙ (a.is ∙ ap (λ n. Err (fault n)) (at_place text p within)))
+    ap reader_answer (sym (split_at text rest p stands)) ∙ (g rest ∙ (a.is ∙ ap (λ n. Err (fault n)) (at_place text p within)))
 
-fraction_answer : (text : List ℕ) (p : ℕ) → HasFraction text p → answer text ≡ Err (Fraction p)
-fraction_answer text p h = by (value_awaited (take p text) h.3.awaited) h.2 h.3.stands h.4
+fraction_answer : (text : List ℕ) (p : ℕ) → HasFraction text p → reader_answer text ≡ Err (Fraction p)
+fraction_answer text p h = by (value_awaited (take p text) h.0.awaited) h.0.rest h.0.stands h.1
   where
-    by : ValueAwaited (take p text) → (rest : List ℕ) → drop p text ≡ signed h.0 h.1 ++ rest → BeginsWithMark rest → answer text ≡ Err (Fraction p)
+    by : ValueAwaited (take p text) → (rest : List ℕ) → drop p text ≡ signed h.0.minus h.0.digits ++ rest → BeginsWithMark rest → reader_answer text ≡ Err (Fraction p)
     by v [] stands marked = absurd marked
-    by v (b ∷ bs) stands marked = answers_at text (signed h.0 h.1 ++ b ∷ bs) p (state (awaiting v.f) v.ls None) Fraction h.3.within stands v.follows (number_read v.f h.0 h.1 h.3.whole (λ m is. number_marked is marked))
+    by v (b ∷ bs) stands marked = answers_at text (signed h.0.minus h.0.digits ++ b ∷ bs) p (state (awaiting v.f) v.ls None) Fraction h.0.within stands v.follows (number_read v.f h.0.minus h.0.digits h.0.whole (λ m is. number_marked is marked))
 
-range_answer : (text : List ℕ) (p : ℕ) → IsOutOfRange text p → answer text ≡ Err (Range p)
+range_answer : (text : List ℕ) (p : ℕ) → IsOutOfRange text p → reader_answer text ≡ Err (Range p)
 range_answer text p h =
-    let v = value_awaited (take p text) h.3.awaited in
-    answers_at text (signed h.0 h.1 ++ h.2) p (state (awaiting v.f) v.ls None) Range h.3.within h.3.stands v.follows (number_read v.f h.0 h.1 h.3.whole (λ m is. number_too_large h.2 is h.5 h.4))
+    let v = value_awaited (take p text) h.0.awaited in
+    answers_at text (signed h.0.minus h.0.digits ++ h.0.rest) p (state (awaiting v.f) v.ls None) Range h.0.within h.0.stands v.follows (number_read v.f h.0.minus h.0.digits h.0.whole (λ m is. number_too_large h.0.rest is h.2 h.1))
 
-bracket_tree : (bracket : ℕ) → (bracket ≡ 91) ⊎ (bracket ≡ 123) → (t : Tree) × (close : ℕ) × (print t ≡ bracket ∷ close ∷ []) × IsTree t × ((depth : ℕ) → depth < max_depth → IsTaken depth t)
+bracket_tree : (bracket : ℕ) → (bracket ≡ 91) ⊎ (bracket ≡ 123) → (t : Tree) × (close : ℕ) × (print t ≡ bracket ∷ close ∷ []) × IsTree t × ((depth : ℕ) → depth < MAX_LEVELS → IsTaken depth t)
 bracket_tree bracket (inl e) = (array (no_elements []), 93, ap (λ n. n ∷ 93 ∷ []) (sym e), tt, λ depth l. (l, tt))
 bracket_tree bracket (inr e) = (object (no_members []), 125, ap (λ n. n ∷ 125 ∷ []) (sym e), tt, λ depth l. (l, tt))
 
-deep_step : (f : Bool) (p bracket : ℕ) (ls : List Level) → (bracket ≡ 91) ⊎ (bracket ≡ 123) → nat_lt (length ls) max_depth ≡ false → step p bracket (state (awaiting f) ls None) ≡ Err (TooDeep p)
-deep_step f p bracket ls (inl e) h = ap (λ b. step p b (state (awaiting f) ls None)) e ∙ list_too_deep f p ls None h
-deep_step f p bracket ls (inr e) h = ap (λ b. step p b (state (awaiting f) ls None)) e ∙ object_too_deep f p ls None h
+deep_step : (f : Bool) (p bracket : ℕ) (ls : List Level) → (bracket ≡ 91) ⊎ (bracket ≡ 123) → nat_lt (length ls) MAX_LEVELS ≡ false → take_byte p bracket (state (awaiting f) ls None) ≡ Err (TooDeep p)
+deep_step f p bracket ls (inl e) h = ap (λ b. take_byte p b (state (awaiting f) ls None)) e ∙ list_too_deep f p ls None h
+deep_step f p bracket ls (inr e) h = ap (λ b. take_byte p b (state (awaiting f) ls None)) e ∙ object_too_deep f p ls None h
 
-too_deep_answer : (text : List ℕ) (p : ℕ) → IsTooDeep text p → answer text ≡ Err (TooDeep p)
+too_deep_answer : (text : List ℕ) (p : ℕ) → IsTooDeep text p → reader_answer text ≡ Err (TooDeep p)
 too_deep_answer text p h = by (value_awaited (take p text) h.awaited)
   where
-    by : ValueAwaited (take p text) → answer text ≡ Err (TooDeep p)
-    by v = room (nat_lt (length v.ls) max_depth) refl
+    by : ValueAwaited (take p text) → reader_answer text ≡ Err (TooDeep p)
+    by v = room (nat_lt (length v.ls) MAX_LEVELS) refl
       where
-        room : (x : Bool) → nat_lt (length v.ls) max_depth ≡ x → answer text ≡ Err (TooDeep p)
+        room : (x : Bool) → nat_lt (length v.ls) MAX_LEVELS ≡ x → reader_answer text ≡ Err (TooDeep p)
         room false e = answers_at text (h.bracket ∷ h.rest) p (state (awaiting v.f) v.ls None) TooDeep h.within h.stands v.follows (by_step (deep_step v.f (length (take p text)) h.bracket v.ls h.opens e) (by_fault refl))
         room true e =
             let t = bracket_tree h.bracket h.opens in
             let whole : take p text ++ print t.0 ≡ (take p text ++ h.bracket ∷ []) ++ t.1 ∷ [] = ap (λ w. take p text ++ w) t.2 ∙ sym (append_assoc (take p text) (h.bracket ∷ []) (t.1 ∷ [])) in
-            absurd (h.too_deep (faultless-front (take p text ++ h.bracket ∷ []) (t.1 ∷ []) (subst BeginsFaultless whole (plug v.ls (take p text) v.awaited t.0 t.3 (t.4 (length v.ls) (below (length v.ls) max_depth e))))))
+            absurd (h.too_deep (faultless-front (take p text ++ h.bracket ∷ []) (t.1 ∷ []) (subst BeginsFaultless whole (plug v.ls (take p text) v.awaited t.0 t.3 (t.4 (length v.ls) (below (length v.ls) MAX_LEVELS e))))))
 
-double_key_answer : (text : List ℕ) (p : ℕ) → HasDoubleKey text p → answer text ≡ Err (DoubleKey p)
+double_key_answer : (text : List ℕ) (p : ℕ) → HasDoubleKey text p → reader_answer text ≡ Err (DoubleKey p)
 double_key_answer text p h = by (key_awaited (take p text) h.awaited)
   where
-    by : KeyAwaited (take p text) → answer text ≡ Err (DoubleKey p)
-    by k = known (has_key (content h.key) (map key_of k.members)) refl
+    by : KeyAwaited (take p text) → reader_answer text ≡ Err (DoubleKey p)
+    by k = known (has_key (string_content h.key) (map key_of k.members)) refl
       where
-        known : (x : Bool) → has_key (content h.key) (map key_of k.members) ≡ x → answer text ≡ Err (DoubleKey p)
+        known : (x : Bool) → has_key (string_content h.key) (map key_of k.members) ≡ x → reader_answer text ≡ Err (DoubleKey p)
         known true e = answers_at text (print_string h.key ++ h.rest) p (state (key_mode k.f) (level.Object k.q k.members ∷ k.ls) None) DoubleKey h.within h.stands k.follows (key_refused k.f h.key h.rest h.well_formed e)
         known false e = absurd (h.double (faultless-front (take p text ++ print_string h.key) (58 ∷ [])
             (subst BeginsFaultless (sym (append_assoc (take p text) (print_string h.key) (58 ∷ []))) (named_faultless k.ls (take p text) h.key k.awaited h.well_formed e))))
@@ -384,44 +386,44 @@ number_begins text v minus ds b whole marked = by (b == 46) refl
         (plug_json v.ls text v.awaited (number minus ds [] (b ∷ 48 ∷ [])) (whole, tt, (other b e marked, inl (refl, tt)))))
 
 fraction_clash : (text : List ℕ) (p q : ℕ) → HasSyntaxFault text p → HasFraction text q → ⊥
-fraction_clash text p q h k = by k.2 k.3.stands k.4
+fraction_clash text p q h k = by k.0.rest k.0.stands k.1
   where
     v : ValueAwaited (take q text)
-    v = value_awaited (take q text) k.3.awaited
+    v = value_awaited (take q text) k.0.awaited
 
-    by : (rest : List ℕ) → drop q text ≡ signed k.0 k.1 ++ rest → BeginsWithMark rest → ⊥
+    by : (rest : List ℕ) → drop q text ≡ signed k.0.minus k.0.digits ++ rest → BeginsWithMark rest → ⊥
     by [] stands marked = marked
     by (b ∷ bs) stands marked =
-        part_clash text (signed k.0 k.1 ++ b ∷ []) bs p q h k.3.within (stands ∙ sym (append_assoc (signed k.0 k.1) (b ∷ []) bs))
-        (number_begins (take q text) v k.0 k.1 b k.3.whole marked)
+        part_clash text (signed k.0.minus k.0.digits ++ b ∷ []) bs p q h k.0.within (stands ∙ sym (append_assoc (signed k.0.minus k.0.digits) (b ∷ []) bs))
+        (number_begins (take q text) v k.0.minus k.0.digits b k.0.whole marked)
         (λ f. refused f)
       where
-        refused : BeginsFaultless (take q text ++ (signed k.0 k.1 ++ b ∷ [])) → ⊥
+        refused : BeginsFaultless (take q text ++ (signed k.0.minus k.0.digits ++ b ∷ [])) → ⊥
         refused f =
-            let bytes : (take q text ++ (signed k.0 k.1 ++ b ∷ [])) ++ f.0 ≡ take q text ++ (signed k.0 k.1 ++ b ∷ f.0) = append_assoc (take q text) (signed k.0 k.1 ++ b ∷ []) f.0 ∙ ap (λ w. take q text ++ w) (append_assoc (signed k.0 k.1) (b ∷ []) f.0) in
-            let a = number_read v.f k.0 k.1 {p = length (take q text)} {rest = b ∷ f.0} {ls = v.ls} {o = None} {x = Err (Fraction (length (take q text)))} k.3.whole (λ m is. number_marked is marked) in
-            other_value (take q text ++ (signed k.0 k.1 ++ b ∷ f.0)) f.1 (Fraction (length (take q text))) (ap answer (sym bytes) ∙ answer-value ((take q text ++ (signed k.0 k.1 ++ b ∷ [])) ++ f.0) f.1 f.2) (v.follows (signed k.0 k.1 ++ b ∷ f.0) ∙ a.is)
+            let bytes : (take q text ++ (signed k.0.minus k.0.digits ++ b ∷ [])) ++ f.0 ≡ take q text ++ (signed k.0.minus k.0.digits ++ b ∷ f.0) = append_assoc (take q text) (signed k.0.minus k.0.digits ++ b ∷ []) f.0 ∙ ap (λ w. take q text ++ w) (append_assoc (signed k.0.minus k.0.digits) (b ∷ []) f.0) in
+            let a = number_read v.f k.0.minus k.0.digits {p = length (take q text)} {rest = b ∷ f.0} {ls = v.ls} {o = None} {x = Err (Fraction (length (take q text)))} k.0.whole (λ m is. number_marked is marked) in
+            other_value (take q text ++ (signed k.0.minus k.0.digits ++ b ∷ f.0)) f.1 (Fraction (length (take q text))) (ap reader_answer (sym bytes) ∙ reader_answer-value ((take q text ++ (signed k.0.minus k.0.digits ++ b ∷ [])) ++ f.0) f.1 f.2) (v.follows (signed k.0.minus k.0.digits ++ b ∷ f.0) ∙ a.is)
 
 -- a number that is too large stays so
 still_large : (minus : Bool) (n b : ℕ) → fits minus n ≡ false → fits minus (grow n b) ≡ false
 still_large true n b h = grind (arith, nat_tests)
 still_large false n b h = grind (arith, nat_tests)
 
-large_step : (q : ℕ) (minus : Bool) (n : ℕ) (ls : List Level) (p b : ℕ) → fits minus n ≡ false → is_decimal b ≡ false → (fault : JsonFault) × (step p b (state (mode.Digits q minus (sat n)) ls None) ≡ Err fault)
+large_step : (q : ℕ) (minus : Bool) (n : ℕ) (ls : List Level) (p b : ℕ) → fits minus n ≡ false → is_decimal b ≡ false → (fault : JsonFault) × (take_byte p b (state (mode.Digits (open_number q minus (sat n))) ls None) ≡ Err fault)
 unfolding after_digits
 large_step q minus n ls p b h d = by (is_mark b) refl
   where
-    by : (x : Bool) → is_mark b ≡ x → (fault : JsonFault) × (step p b (state (mode.Digits q minus (sat n)) ls None) ≡ Err fault)
+    by : (x : Bool) → is_mark b ≡ x → (fault : JsonFault) × (take_byte p b (state (mode.Digits (open_number q minus (sat n))) ls None) ≡ Err fault)
     by true e = (Fraction q, (digits_mode q minus n).at_byte p b ls None d ∙ rw e refl)
-    by false e = (Range q, (digits_mode q minus n).at_byte p b ls None d ∙ rw e (ap (λ o. and_then o (between p b)) (number_refused p q minus n (mode.Digits q minus (sat n)) ls None h)))
+    by false e = (Range q, (digits_mode q minus n).at_byte p b ls None d ∙ rw e (ap (λ o. and_then o (between p b)) (number_refused p q minus n (mode.Digits (open_number q minus (sat n))) ls None h)))
 
-over_range : (tail : List ℕ) (p q : ℕ) (minus : Bool) (n : ℕ) (ls : List Level) (json : OrderedJson) → fits minus n ≡ false → answer_from p tail (Ok (state (mode.Digits q minus (sat n)) ls None)) ≡ Ok json → ⊥
-over_range [] p q minus n ls json h e = never p [] (state (mode.Digits q minus (sat n)) ls None) e (number_too_large [] (digits_mode q minus n) h tt)
+over_range : (tail : List ℕ) (p q : ℕ) (minus : Bool) (n : ℕ) (ls : List Level) (json : OrderedJson) → fits minus n ≡ false → answer_from p tail (Ok (state (mode.Digits (open_number q minus (sat n))) ls None)) ≡ Ok json → ⊥
+over_range [] p q minus n ls json h e = never p [] (state (mode.Digits (open_number q minus (sat n))) ls None) e (number_too_large [] (digits_mode q minus n) h tt)
 over_range (b ∷ tail) p q minus n ls json h e = by (is_decimal b) refl (λ f. over_range tail (p + 1) q minus (grow n b) ls json (still_large minus n b h) f)
   where
-    by : (x : Bool) → is_decimal b ≡ x → (answer_from (p + 1) tail (Ok (state (mode.Digits q minus (sat (grow n b))) ls None)) ≡ Ok json → ⊥) → ⊥
+    by : (x : Bool) → is_decimal b ≡ x → (answer_from (p + 1) tail (Ok (state (mode.Digits (open_number q minus (sat (grow n b)))) ls None)) ≡ Ok json → ⊥) → ⊥
     by true d on = on (ap (answer_from (p + 1) tail) (sym (digit_step p q b minus n ls None d)) ∙ e)
-    by false d on = let s = large_step q minus n ls p b h d in never p (b ∷ tail) (state (mode.Digits q minus (sat n)) ls None) e (by_step s.1 (by_fault refl))
+    by false d on = let s = large_step q minus n ls p b h d in never p (b ∷ tail) (state (mode.Digits (open_number q minus (sat n))) ls None) e (by_step s.1 (by_fault refl))
 
 range_refused : (text : List ℕ) (v : ValueAwaited text) (minus : Bool) (ds : List ℕ) → IsWhole ds → fits minus (magnitude ds) ≡ false → BeginsFaultless (text ++ signed minus ds) → ⊥
 range_refused text v minus [] whole large f = whole
@@ -432,20 +434,20 @@ range_refused text v minus (d ∷ ds) (inl e) large f = let zero_fits : fits min
     both false = refl
 range_refused text v minus (d ∷ ds) (inr e) large f =
     let p = length text + length (signed minus (d ∷ ds)) in
-    let s = state (mode.Digits (length text) minus (sat (magnitude (d ∷ ds)))) v.ls None in
+    let s = state (mode.Digits (open_number (length text) minus (sat (magnitude (d ∷ ds))))) v.ls None in
     let a = nonzero_read v.f minus d ds {p = length text} {rest = f.0} {ls = v.ls} {o = None} {x = answer_from p f.0 (Ok s)} e.0 e.1 (record { is = refl }) in
     over_range f.0 p (length text) minus (magnitude (d ∷ ds)) v.ls f.1 large
-    (sym (v.follows (signed minus (d ∷ ds) ++ f.0) ∙ a.is) ∙ (ap answer (sym (append_assoc text (signed minus (d ∷ ds)) f.0)) ∙ answer-value ((text ++ signed minus (d ∷ ds)) ++ f.0) f.1 f.2))
+    (sym (v.follows (signed minus (d ∷ ds) ++ f.0) ∙ a.is) ∙ (ap reader_answer (sym (append_assoc text (signed minus (d ∷ ds)) f.0)) ∙ reader_answer-value ((text ++ signed minus (d ∷ ds)) ++ f.0) f.1 f.2))
 
 range_clash : (text : List ℕ) (p q : ℕ) → HasSyntaxFault text p → IsOutOfRange text q → ⊥
 range_clash text p q h k =
-    let v = value_awaited (take q text) k.3.awaited in
-    part_clash text (signed k.0 k.1) k.2 p q h k.3.within k.3.stands
-    (subst Begins (ap (λ w. take q text ++ w) (append-nil (signed k.0 k.1))) (plug_json v.ls (take q text) v.awaited (number k.0 k.1 [] []) (k.3.whole, tt, tt)))
-    (range_refused (take q text) v k.0 k.1 k.3.whole k.5)
+    let v = value_awaited (take q text) k.0.awaited in
+    part_clash text (signed k.0.minus k.0.digits) k.0.rest p q h k.0.within k.0.stands
+    (subst Begins (ap (λ w. take q text ++ w) (append-nil (signed k.0.minus k.0.digits))) (plug_json v.ls (take q text) v.awaited (number k.0.minus k.0.digits [] []) (k.0.whole, tt, tt)))
+    (range_refused (take q text) v k.0.minus k.0.digits k.0.whole k.2)
 
-syntax_answer : (text : List ℕ) (p : ℕ) → HasSyntaxFault text p → answer text ≡ Err (Syntax p)
-syntax_answer text p h = by (answer text) refl (answer_says text)
+syntax_answer : (text : List ℕ) (p : ℕ) → HasSyntaxFault text p → reader_answer text ≡ Err (Syntax p)
+syntax_answer text p h = by (reader_answer text) refl (answer_says text)
   where
     is_json : (json : OrderedJson) → HasValue text json → IsJson text
     is_json json k = (k.0, k.1, k.2, k.3)
@@ -454,7 +456,7 @@ syntax_answer text p h = by (answer text) refl (answer_says text)
     value json k (inl e) = e.1 (is_json json k)
     value json k (inr s) = s.1 (drop (p + 1) text, subst IsJson (sym (take-append-drop (p + 1) text)) (is_json json k))
 
-    by : (x : Answer) → answer text ≡ x → Says text x → answer text ≡ Err (Syntax p)
+    by : (x : Answer) → reader_answer text ≡ x → Says text x → reader_answer text ≡ Err (Syntax p)
     by (Ok json) e k = absurd (value json k h.fault)
     by (Err (Syntax q)) e k = e ∙ ap (λ n. Err (Syntax n)) (same_place q p (syntax_places text q p k h) (syntax_places text p q h k))
     by (Err (DoubleKey q)) e k = absurd (double_key_clash text p q h k)
@@ -466,37 +468,37 @@ syntax_answer text p h = by (answer text) refl (answer_says text)
 
 -- ---- the laws
 -- the fault of a text that is short enough is its answer
-pub fault_answer : (text : List ℕ) (fault : JsonFault) → fault ≢ Memory → length text ≤ max_len → HasFault text fault → answer text ≡ Err fault
+pub fault_answer : (text : List ℕ) (fault : JsonFault) → fault ≢ Memory → length text ≤ MAX_TEXT → HasFault text fault → reader_answer text ≡ Err fault
 fault_answer text (Syntax p) n l h = syntax_answer text p h.1
 fault_answer text (DoubleKey p) n l h = double_key_answer text p h.1
 fault_answer text (Fraction p) n l h = fraction_answer text p h.1
 fault_answer text (Range p) n l h = range_answer text p h.1
 fault_answer text (TooDeep p) n l h = too_deep_answer text p h.1
-fault_answer text TooLong n l h = let long : max_len < length text = h in absurd (omega arith)
+fault_answer text TooLong n l h = let long : MAX_TEXT < length text = h in absurd (omega arith)
 fault_answer text Memory n l h = absurd (n refl)
 
 pub no_fault : (text : List ℕ) (json : OrderedJson) (fault : JsonFault) → fault ≢ Memory → Means text json → HasFault text fault → ⊥
-no_fault text json fault n m h = other_value text json fault (answer-value text json m.1) (fault_answer text fault n m.0 h)
+no_fault text json fault n m h = other_value text json fault (reader_answer-value text json m.1) (fault_answer text fault n m.0 h)
 
-short_or_long : (text : List ℕ) → (length text ≤ max_len) ⊎ (max_len < length text)
+short_or_long : (text : List ℕ) → (length text ≤ MAX_TEXT) ⊎ (MAX_TEXT < length text)
 short_or_long text = order (length text)
   where
     order : (k : ℕ) → (k ≤ 1048576) ⊎ (1048576 < k)
     order k = grind arith
 
 -- a text that is too long has no other fault
-long_fault : (text : List ℕ) (fault : JsonFault) → fault ≢ Memory → max_len < length text → HasFault text fault → fault ≡ TooLong
-long_fault text (Syntax p) n l h = let short : length text ≤ max_len = h.0 in absurd (omega arith)
-long_fault text (DoubleKey p) n l h = let short : length text ≤ max_len = h.0 in absurd (omega arith)
-long_fault text (Fraction p) n l h = let short : length text ≤ max_len = h.0 in absurd (omega arith)
-long_fault text (Range p) n l h = let short : length text ≤ max_len = h.0 in absurd (omega arith)
-long_fault text (TooDeep p) n l h = let short : length text ≤ max_len = h.0 in absurd (omega arith)
+long_fault : (text : List ℕ) (fault : JsonFault) → fault ≢ Memory → MAX_TEXT < length text → HasFault text fault → fault ≡ TooLong
+long_fault text (Syntax p) n l h = let short : length text ≤ MAX_TEXT = h.0 in absurd (omega arith)
+long_fault text (DoubleKey p) n l h = let short : length text ≤ MAX_TEXT = h.0 in absurd (omega arith)
+long_fault text (Fraction p) n l h = let short : length text ≤ MAX_TEXT = h.0 in absurd (omega arith)
+long_fault text (Range p) n l h = let short : length text ≤ MAX_TEXT = h.0 in absurd (omega arith)
+long_fault text (TooDeep p) n l h = let short : length text ≤ MAX_TEXT = h.0 in absurd (omega arith)
 long_fault text TooLong n l h = refl
 long_fault text Memory n l h = absurd (n refl)
 
 pub one_fault : (text : List ℕ) (a b : JsonFault) → a ≢ Memory → b ≢ Memory → HasFault text a → HasFault text b → a ≡ b
 one_fault text a b n m h k = by (short_or_long text)
   where
-    by : (length text ≤ max_len) ⊎ (max_len < length text) → a ≡ b
+    by : (length text ≤ MAX_TEXT) ⊎ (MAX_TEXT < length text) → a ≡ b
     by (inl l) = let same : ◌≡◌ {A = Answer} (Err a) (Err b) = sym (fault_answer text a n l h) ∙ fault_answer text b m l k in cc
     by (inr l) = long_fault text a n l h ∙ sym (long_fault text b m l k)

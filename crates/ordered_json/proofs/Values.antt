@@ -7,8 +7,8 @@ use Rattle.ordered_json.specs.declared.level.Level.TheVariants as level
 use Rattle.ordered_json.specs.declared.mode.Mode.TheVariants as mode
 use Rattle.ordered_json.specs.declared.reader.Reader.{Reader}
 use Rattle.ordered_json.specs.Words.{key_of, member_of}
-use Rattle.ordered_json.specs.Grammar.{Char, AreChars, IsSpace, print_string, Tree, null, array, object, no_elements, no_members, print, lead, colon, IsTree}
-use Rattle.ordered_json.specs.Meaning.{content, value_at, has_key, IsTaken, HasValue}
+use Rattle.ordered_json.specs.Grammar.{Char, AreChars, IsSpace, print_string, Tree, null, array, object, no_elements, no_members, print, lead, key_end, IsTree}
+use Rattle.ordered_json.specs.Meaning.{string_content, value_at, has_key, IsTaken, HasValue}
 use Rattle.ordered_json.specs.Faults.{BeginsFaultless, AwaitsValue, AwaitsKey}
 use Rattle.ordered_json.proofs.States.{state, finished}
 use Rattle.ordered_json.proofs.Fronts.{Item, comma_after, print_items, item_values, close, print-close, are-close, taken-close, values-close, Entry, comma_past, print_entries, entry_values, close_members, keys-entries, print-close_members, are-close_members, taken-close_members, values-close_members}
@@ -76,7 +76,7 @@ finished_after (level.Member p members key key_at ∷ ls) text a t h taken =
     let k = a.named.awaited in
     let l = lead k.space (comma_past k.es) k.space' in
     let s = print_string n.chars in
-    let gap = colon n.gap a.gap' in
+    let gap = key_end n.gap a.gap' in
     let before = print_entries k.es in
     let whole : text ≡ k.inside.outer ++ 123 ∷ (before ++ (l ++ (s ++ gap))) =
     a.printed ∙ (ap (λ w. w ++ 58 ∷ a.gap') (n.printed ∙ item_bytes k.inside.outer before l (s ++ n.gap) k.front n.before 123 k.inside.printed k.printed)
@@ -93,11 +93,11 @@ finished_after (level.Member p members key key_at ∷ ls) text a t h taken =
         stands = k.inside.stands;
         place = k.inside.place;
         room = k.inside.room;
-        are = (k.inside.are, (k.white, k.white', n.are, n.white, a.white', h), subst (λ ks. has_key (content n.chars) ks ≡ false) (ap (map key_of) k.inside.values ∙ keys-entries (p + 1) k.es) n.fresh, taken);
+        are = (k.inside.are, (k.white, k.white', n.are, n.white, a.white', h), subst (λ ks. has_key (string_content n.chars) ks ≡ false) (ap (map key_of) k.inside.values ∙ keys-entries (p + 1) k.es) n.fresh, taken);
         values = ap (λ ms. ms ++ member_of key key_at (value_at (length text) t) ∷ []) k.inside.values
             ∙ (ap (λ c. entry_values (p + 1) k.es ++ member_of c key_at (value_at (length text) t) ∷ []) n.key_is
-            ∙ (ap (λ c. entry_values (p + 1) k.es ++ member_of (content n.chars) c (value_at (length text) t) ∷ []) key_is
-            ∙ ap (λ c. entry_values (p + 1) k.es ++ member_of (content n.chars) (p + 1 + length (before ++ l)) (value_at c t) ∷ []) (sym value_place)));
+            ∙ (ap (λ c. entry_values (p + 1) k.es ++ member_of (string_content n.chars) c (value_at (length text) t) ∷ []) key_is
+            ∙ ap (λ c. entry_values (p + 1) k.es ++ member_of (string_content n.chars) (p + 1 + length (before ++ l)) (value_at c t) ∷ []) (sym value_place)));
         printed = ap (λ w. w ++ print t) whole ∙ (append_assoc k.inside.outer (123 ∷ (before ++ (l ++ (s ++ gap)))) (print t) ∙ ap (λ w. k.inside.outer ++ 123 ∷ w) (append_assoc before (l ++ (s ++ gap)) (print t)));
       };
       space = [];
@@ -179,7 +179,7 @@ entry_after_closed {ls} {p} {members} text a = close_object_text ls p members (a
 pub awaits_faultless : (ls : List Level) (text : List ℕ) → Awaits ls text → BeginsFaultless text
 awaits_faultless ls text a = faultless-front text (print null) (plug ls text a null tt tt)
 
-named_awaits : (ls : List Level) {p : ℕ} {members : List Member} (text : List ℕ) (cs : List Char) → KeyAwaits (Awaits ls) (length ls) p members text → AreChars cs → has_key (content cs) (map key_of members) ≡ false → Awaits (level.Member p members (content cs) (length text) ∷ ls) (text ++ (print_string cs ++ 58 ∷ []))
+named_awaits : (ls : List Level) {p : ℕ} {members : List Member} (text : List ℕ) (cs : List Char) → KeyAwaits (Awaits ls) (length ls) p members text → AreChars cs → has_key (string_content cs) (map key_of members) ≡ false → Awaits (level.Member p members (string_content cs) (length text) ∷ ls) (text ++ (print_string cs ++ 58 ∷ []))
 named_awaits ls text cs k are fresh = record {
   before = text ++ print_string cs;
   named = record { before = text; awaited = k; chars = cs; gap = []; are = are; fresh = fresh; white = tt; key_is = refl; place = refl; printed = ap (λ w. text ++ w) (sym (append-nil (print_string cs))) };
@@ -188,8 +188,8 @@ named_awaits ls text cs k are fresh = record {
   printed = sym (append_assoc text (print_string cs) (58 ∷ []));
 }
 
-pub named_faultless : (ls : List Level) {p : ℕ} {members : List Member} (text : List ℕ) (cs : List Char) → KeyAwaits (Awaits ls) (length ls) p members text → AreChars cs → has_key (content cs) (map key_of members) ≡ false → BeginsFaultless (text ++ (print_string cs ++ 58 ∷ []))
-named_faultless ls {p} {members} text cs k are fresh = awaits_faultless (level.Member p members (content cs) (length text) ∷ ls) (text ++ (print_string cs ++ 58 ∷ [])) (named_awaits ls text cs k are fresh)
+pub named_faultless : (ls : List Level) {p : ℕ} {members : List Member} (text : List ℕ) (cs : List Char) → KeyAwaits (Awaits ls) (length ls) p members text → AreChars cs → has_key (string_content cs) (map key_of members) ≡ false → BeginsFaultless (text ++ (print_string cs ++ 58 ∷ []))
+named_faultless ls {p} {members} text cs k are fresh = awaits_faultless (level.Member p members (string_content cs) (length text) ∷ ls) (text ++ (print_string cs ++ 58 ∷ [])) (named_awaits ls text cs k are fresh)
 
 pub key_awaits_faultless : (ls : List Level) {p : ℕ} {members : List Member} (text : List ℕ) → KeyAwaits (Awaits ls) (length ls) p members text → BeginsFaultless text
 key_awaits_faultless ls {members = members} text k =

@@ -1,10 +1,12 @@
 -- Which fault a text has first, reading from left to right, and where.
-use Rattle.std.specs.Prelude.{◌≡◌, ◌⊎◌, ℕ, ◌+◌, ◌<◌, ◌≤◌, Bool, true, false, ◌||◌, ◌==◌, List, [], ◌∷◌, ◌++◌, length, take, drop, ⊤}
+use Rattle.std.specs.Prelude.{◌≡◌, ◌⊎◌, ℕ, ◌+◌, ◌<◌, ◌≤◌, Bool, true, false, ◌||◌, ◌==◌, List, [], ◌∷◌, ◌++◌, length, take, drop, ⊤, codes}
+use Rattle.xs_data.specs.Ascii.{line_feed, full_stop, colon, capital_e, opening_bracket, small_e, opening_brace}
+use Rattle.ordered_json.specs.declared.TheConstants.{MAX_TEXT}
 use Rattle.ordered_json.specs.declared.fault.JsonFault.{JsonFault}
 use Rattle.ordered_json.specs.declared.fault.JsonFault.TheVariants.{Syntax, DoubleKey, Fraction, Range, TooDeep, TooLong, Memory}
 use Rattle.ordered_json.specs.declared.json.OrderedJson.{OrderedJson}
 use Rattle.ordered_json.specs.Grammar.{Char, AreChars, IsWhole, is_decimal, signed, print_string, IsJson}
-use Rattle.ordered_json.specs.Meaning.{magnitude, fits, HasValue, max_len}
+use Rattle.ordered_json.specs.Meaning.{magnitude, fits, HasValue}
 
 -- some JSON text begins with these bytes
 abbrev pub Begins : List ℕ → Type 0
@@ -17,11 +19,11 @@ BeginsFaultless text = (rest : List ℕ) × (json : OrderedJson) × HasValue (te
 -- No fault is found in these bytes, and a value may begin after them: a line feed and `null` may stand
 -- there. Inside a string no line feed stands, and after one nothing goes on.
 abbrev pub AwaitsValue : List ℕ → Type 0
-AwaitsValue text = BeginsFaultless (text ++ 10 ∷ 110 ∷ 117 ∷ 108 ∷ 108 ∷ [])
+AwaitsValue text = BeginsFaultless (text ++ line_feed ∷ codes "null")
 
 -- likewise for a key: a line feed, some string and a colon may stand there
 abbrev pub AwaitsKey : List ℕ → Type 0
-AwaitsKey text = (key : List Char) × AreChars key × BeginsFaultless (text ++ (10 ∷ (print_string key ++ 58 ∷ [])))
+AwaitsKey text = (key : List Char) × AreChars key × BeginsFaultless (text ++ (line_feed ∷ (print_string key ++ colon ∷ [])))
 
 -- Up to the place no fault is found. Either the text ends there and is no JSON text, or no JSON text
 -- begins with the bytes up to the one at the place.
@@ -39,8 +41,11 @@ pub record HasDoubleKey (text : List ℕ) (place : ℕ) : Type 0 where
   pub awaited : AwaitsKey (take place text)
   pub double : BeginsFaultless (take place text ++ print_string key) → ⊥
 
--- an optional minus and whole digits stand at the place, and then `rest`
-pub record HasNumber (text : List ℕ) (place : ℕ) (minus : Bool) (digits rest : List ℕ) : Type 0 where
+-- a number stands at the place: an optional minus and whole digits, and then `rest`
+pub record HasNumber (text : List ℕ) (place : ℕ) : Type 0 where
+  pub minus : Bool
+  pub digits : List ℕ
+  pub rest : List ℕ
   pub within : place ≤ length text
   pub whole : IsWhole digits
   pub stands : drop place text ≡ signed minus digits ++ rest
@@ -48,7 +53,7 @@ pub record HasNumber (text : List ℕ) (place : ℕ) (minus : Bool) (digits rest
 
 -- what makes a number one with a fraction or an exponent: `.`, `e` or `E`
 abbrev pub is_mark : ℕ → Bool
-is_mark b = (b == 46) || ((b == 101) || (b == 69))
+is_mark b = (b == full_stop) || ((b == small_e) || (b == capital_e))
 
 abbrev pub BeginsWithMark : List ℕ → Type 0
 BeginsWithMark [] = ⊥
@@ -60,29 +65,28 @@ EndsNumber [] = ⊤
 EndsNumber (b ∷ bs) = is_decimal b || is_mark b ≡ false
 
 abbrev pub HasFraction : List ℕ → ℕ → Type 0
-HasFraction text place = (minus : Bool) × (digits : List ℕ) × (rest : List ℕ) × HasNumber text place minus digits rest × BeginsWithMark rest
+HasFraction text place = (number : HasNumber text place) × BeginsWithMark number.rest
 
 abbrev pub IsOutOfRange : List ℕ → ℕ → Type 0
 IsOutOfRange text place =
-    (minus : Bool) × (digits : List ℕ) × (rest : List ℕ) × HasNumber text place minus digits rest
-    × EndsNumber rest × (fits minus (magnitude digits) ≡ false)
+    (number : HasNumber text place) × EndsNumber number.rest × (fits number.minus (magnitude number.digits) ≡ false)
 
 -- A bracket stands at the place where a value may begin, and makes a fault: it opens a level too many.
 pub record IsTooDeep (text : List ℕ) (place : ℕ) : Type 0 where
   pub bracket : ℕ
   pub rest : List ℕ
   pub within : place ≤ length text
-  pub opens : (bracket ≡ 91) ⊎ (bracket ≡ 123)
+  pub opens : (bracket ≡ opening_bracket) ⊎ (bracket ≡ opening_brace)
   pub stands : drop place text ≡ bracket ∷ rest
   pub awaited : AwaitsValue (take place text)
   pub too_deep : BeginsFaultless (take place text ++ bracket ∷ []) → ⊥
 
 -- This fault is the text's first. Want of memory may come anywhere.
 abbrev pub HasFault : List ℕ → JsonFault → Type 0
-HasFault text (Syntax place) = (length text ≤ max_len) × HasSyntaxFault text place
-HasFault text (DoubleKey place) = (length text ≤ max_len) × HasDoubleKey text place
-HasFault text (Fraction place) = (length text ≤ max_len) × HasFraction text place
-HasFault text (Range place) = (length text ≤ max_len) × IsOutOfRange text place
-HasFault text (TooDeep place) = (length text ≤ max_len) × IsTooDeep text place
-HasFault text TooLong = max_len < length text
+HasFault text (Syntax place) = (length text ≤ MAX_TEXT) × HasSyntaxFault text place
+HasFault text (DoubleKey place) = (length text ≤ MAX_TEXT) × HasDoubleKey text place
+HasFault text (Fraction place) = (length text ≤ MAX_TEXT) × HasFraction text place
+HasFault text (Range place) = (length text ≤ MAX_TEXT) × IsOutOfRange text place
+HasFault text (TooDeep place) = (length text ≤ MAX_TEXT) × IsTooDeep text place
+HasFault text TooLong = MAX_TEXT < length text
 HasFault text Memory = ⊤

@@ -1,10 +1,11 @@
 -- The grammar of RFC 8259: a tree for each way to write a value, and the bytes that it prints.
-use Rattle.std.specs.Prelude.{◌≡◌, ◌⊎◌, ℕ, ◌+◌, ◌*◌, ◌≤◌, Bool, true, false, cond, ◌&&◌, ◌||◌, ◌==◌, nat_le, nat_lt, List, [], ◌∷◌, ◌++◌, ⊤, encode_utf8}
+use Rattle.std.specs.Prelude.{◌≡◌, ◌⊎◌, ℕ, ◌+◌, ◌*◌, ◌≤◌, Bool, true, false, cond, ◌&&◌, ◌||◌, ◌==◌, nat_le, nat_lt, List, [], ◌∷◌, ◌++◌, ⊤, codes, encode_utf8, slice_index}
 use Rattle.std.specs.Char.{digit_value, is_digit, IsScalar}
+use Rattle.xs_data.specs.Ascii.{line_feed, carriage_return, tab, space, quotation_mark, plus_sign, comma, hyphen, full_stop, slash, digit_zero, digit_nine, colon, capital_e, opening_bracket, backslash, closing_bracket, small_e, small_u, opening_brace, closing_brace}
 
 -- white space (section 2): space, tab, line feed, carriage return
 abbrev pub is_blank : ℕ → Bool
-is_blank b = ((b == 32) || (b == 9)) || ((b == 10) || (b == 13))
+is_blank b = ((b == space) || (b == tab)) || ((b == line_feed) || (b == carriage_return))
 
 abbrev pub IsSpace : List ℕ → Type 0
 IsSpace [] = ⊤
@@ -12,7 +13,7 @@ IsSpace (b ∷ bs) = (is_blank b ≡ true) × IsSpace bs
 
 -- a number (section 6): an optional minus, whole digits with no leading zero, a fraction, an exponent
 abbrev pub is_decimal : ℕ → Bool
-is_decimal b = nat_le 48 b && nat_le b 57
+is_decimal b = nat_le digit_zero b && nat_le b digit_nine
 
 abbrev pub AreDigits : List ℕ → Type 0
 AreDigits [] = ⊤
@@ -20,7 +21,7 @@ AreDigits (b ∷ bs) = (is_decimal b ≡ true) × AreDigits bs
 
 abbrev pub IsWhole : List ℕ → Type 0
 IsWhole [] = ⊥
-IsWhole (b ∷ bs) = ((b ≡ 48) × (bs ≡ [])) ⊎ ((b == 48 ≡ false) × AreDigits (b ∷ bs))
+IsWhole (b ∷ bs) = ((b ≡ digit_zero) × (bs ≡ [])) ⊎ ((b == digit_zero ≡ false) × AreDigits (b ∷ bs))
 
 abbrev pub AreSomeDigits : List ℕ → Type 0
 AreSomeDigits [] = ⊥
@@ -28,19 +29,19 @@ AreSomeDigits (b ∷ bs) = AreDigits (b ∷ bs)
 
 abbrev pub IsFraction : List ℕ → Type 0
 IsFraction [] = ⊤
-IsFraction (b ∷ bs) = (b ≡ 46) × AreSomeDigits bs
+IsFraction (b ∷ bs) = (b ≡ full_stop) × AreSomeDigits bs
 
 abbrev pub AreSignedDigits : List ℕ → Type 0
 AreSignedDigits [] = ⊥
-AreSignedDigits (b ∷ bs) = AreDigits (b ∷ bs) ⊎ (((b ≡ 43) ⊎ (b ≡ 45)) × AreSomeDigits bs)
+AreSignedDigits (b ∷ bs) = AreDigits (b ∷ bs) ⊎ (((b ≡ plus_sign) ⊎ (b ≡ hyphen)) × AreSomeDigits bs)
 
 abbrev pub IsExponent : List ℕ → Type 0
 IsExponent [] = ⊤
-IsExponent (b ∷ bs) = ((b ≡ 101) ⊎ (b ≡ 69)) × AreSignedDigits bs
+IsExponent (b ∷ bs) = ((b ≡ small_e) ⊎ (b ≡ capital_e)) × AreSignedDigits bs
 
 -- the minus, if there is one, and the digits
 abbrev pub signed : Bool → List ℕ → List ℕ
-signed true digits = 45 ∷ digits
+signed true digits = hyphen ∷ digits
 signed false digits = digits
 
 -- four hexadecimal digits, which spell a code unit of UTF-16 (section 7)
@@ -70,15 +71,29 @@ is_high_surrogate c = nat_le 0xD800 c && nat_lt c 0xDC00
 abbrev pub is_low_surrogate : ℕ → Bool
 is_low_surrogate c = nat_le 0xDC00 c && nat_lt c 0xE000
 
+-- the byte of a text of one
+abbrev letter : List ℕ → ℕ
+letter text = slice_index text 0
+
+abbrev backspace : ℕ
+backspace = 0x08
+
+abbrev form_feed : ℕ
+form_feed = 0x0C
+
 -- the character that a backslash and this byte stand for, and 0 where they stand for none
 abbrev pub escape_value : ℕ → ℕ
 escape_value b =
-    cond ((b == 34) || ((b == 92) || (b == 47))) b
-    (cond (b == 98) 8 (cond (b == 102) 12 (cond (b == 110) 10 (cond (b == 114) 13 (cond (b == 116) 9 0)))))
+    cond ((b == quotation_mark) || ((b == backslash) || (b == slash))) b
+    (cond (b == letter (codes "b")) backspace
+    (cond (b == letter (codes "f")) form_feed
+    (cond (b == letter (codes "n")) line_feed
+    (cond (b == letter (codes "r")) carriage_return
+    (cond (b == letter (codes "t")) tab 0)))))
 
 -- A high surrogate stands before a low one, and no other surrogate stands anywhere.
 abbrev pub IsChar : Char → Type 0
-IsChar (plain c) = IsScalar c × (32 ≤ c) × (c == 34 ≡ false) × (c == 92 ≡ false)
+IsChar (plain c) = IsScalar c × (space ≤ c) × (c == quotation_mark ≡ false) × (c == backslash ≡ false)
 IsChar (escaped b) = escape_value b == 0 ≡ false
 IsChar (coded u) = (are_hex u ≡ true) × (is_high_surrogate (unit_value u) ≡ false) × (is_low_surrogate (unit_value u) ≡ false)
 IsChar (paired u v) = (are_hex u ≡ true) × (are_hex v ≡ true) × (is_high_surrogate (unit_value u) ≡ true) × (is_low_surrogate (unit_value v) ≡ true)
@@ -89,11 +104,11 @@ AreChars (c ∷ cs) = IsChar c × AreChars cs
 
 -- `\u` and the four digits
 abbrev pub print_unit : CodeUnit → List ℕ
-print_unit u = 92 ∷ 117 ∷ u.first ∷ u.second ∷ u.third ∷ u.fourth ∷ []
+print_unit u = backslash ∷ small_u ∷ u.first ∷ u.second ∷ u.third ∷ u.fourth ∷ []
 
 abbrev pub print_char : Char → List ℕ
 print_char (plain c) = encode_utf8 c
-print_char (escaped b) = 92 ∷ b ∷ []
+print_char (escaped b) = backslash ∷ b ∷ []
 print_char (coded u) = print_unit u
 print_char (paired u v) = print_unit u ++ print_unit v
 
@@ -103,7 +118,7 @@ print_chars (c ∷ cs) = print_char c ++ print_chars cs
 
 -- a string between its quotes
 abbrev pub print_string : List Char → List ℕ
-print_string cs = 34 ∷ (print_chars cs ++ 34 ∷ [])
+print_string cs = quotation_mark ∷ (print_chars cs ++ quotation_mark ∷ [])
 
 -- A value (section 3). In an array and an object (sections 4 and 5) each element or member is written
 -- after white space, the comma of all but the first, and white space again.
@@ -126,31 +141,31 @@ mutual
 
 -- what stands before an element or a member: its comma, if it has one, among white space
 abbrev pub lead : List ℕ → List ℕ → List ℕ → List ℕ
-lead space comma space' = space ++ (comma ++ space')
+lead s mark s' = s ++ (mark ++ s')
 
 -- what stands between a key and its value: the colon, among white space
-abbrev pub colon : List ℕ → List ℕ → List ℕ
-colon space space' = space ++ 58 ∷ space'
+abbrev pub key_end : List ℕ → List ℕ → List ℕ
+key_end s s' = s ++ colon ∷ s'
 
 abbrev mutual
   pub print : Tree → List ℕ
-  print null = 110 ∷ 117 ∷ 108 ∷ 108 ∷ []
-  print (boolean true) = 116 ∷ 114 ∷ 117 ∷ 101 ∷ []
-  print (boolean false) = 102 ∷ 97 ∷ 108 ∷ 115 ∷ 101 ∷ []
+  print null = codes "null"
+  print (boolean true) = codes "true"
+  print (boolean false) = codes "false"
   print (number minus digits fraction exponent) = signed minus digits ++ (fraction ++ exponent)
   print (string cs) = print_string cs
-  print (array es) = 91 ∷ print_elements [] es
-  print (object ms) = 123 ∷ print_members [] ms
+  print (array es) = opening_bracket ∷ print_elements [] es
+  print (object ms) = opening_brace ∷ print_members [] ms
 
   -- with the closing bracket; the comma stands before the first element that is left
   pub print_elements : List ℕ → Elements → List ℕ
-  print_elements comma (no_elements s) = s ++ 93 ∷ []
-  print_elements comma (element s s' t es) = lead s comma s' ++ (print t ++ print_elements (44 ∷ []) es)
+  print_elements mark (no_elements s) = s ++ closing_bracket ∷ []
+  print_elements mark (element s s' t es) = lead s mark s' ++ (print t ++ print_elements (comma ∷ []) es)
 
   pub print_members : List ℕ → Members → List ℕ
-  print_members comma (no_members s) = s ++ 125 ∷ []
-  print_members comma (member s s' k r r' t ms) =
-      lead s comma s' ++ (print_string k ++ (colon r r' ++ (print t ++ print_members (44 ∷ []) ms)))
+  print_members mark (no_members s) = s ++ closing_brace ∷ []
+  print_members mark (member s s' k r r' t ms) =
+      lead s mark s' ++ (print_string k ++ (key_end r r' ++ (print t ++ print_members (comma ∷ []) ms)))
 
 -- the parts are what the grammar asks for in their places
 abbrev mutual

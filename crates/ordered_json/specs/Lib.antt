@@ -2,5 +2,6 @@ pub mod Faults
 pub mod Grammar
 pub mod Laws
 pub mod Meaning
+pub mod Spell
 pub mod Steps
 pub mod Words

@@ -3,21 +3,16 @@ use Rattle.std.specs.Prelude.{◌≡◌, ℕ, suc, ◌+◌, ◌*◌, ◌-◌, �
 use Rattle.std.proofs.Common.{neg_ℤ}
 use Rattle.std.specs.List.{list_any}
 use Rattle.std.specs.Str.{bytes_eq}
+use Rattle.xs_data.specs.Ascii.{comma, digit_zero}
+use Rattle.ordered_json.specs.declared.TheConstants.{MAX_TEXT, MAX_LEVELS}
 use Rattle.ordered_json.specs.declared.json.Member.{Member}
 use Rattle.ordered_json.specs.declared.json.OrderedJson.{OrderedJson, Null, Bool as a_bool, Int, Text, List as a_list, Object}
 use Rattle.ordered_json.specs.Words.{member_of}
-use Rattle.ordered_json.specs.Grammar.{Char, plain, escaped, coded, paired, unit_value, escape_value, Tree, null, boolean, number, string, array, object, Elements, no_elements, element, Members, no_members, member, print, print_string, lead, colon, IsPrinted}
-
--- a text has at most this many bytes, and its arrays and objects nest at most this deep
-abbrev pub max_len : ℕ
-max_len = 1048576
-
-abbrev pub max_depth : ℕ
-max_depth = 64
+use Rattle.ordered_json.specs.Grammar.{Char, plain, escaped, coded, paired, unit_value, escape_value, Tree, null, boolean, number, string, array, object, Elements, no_elements, element, Members, no_members, member, print, print_string, lead, key_end, IsPrinted}
 
 -- the number that decimal digits spell
 abbrev pub magnitude : List ℕ → ℕ
-magnitude digits = fold (λ n b. n * 10 + (b - 48)) 0 digits
+magnitude digits = fold (λ n b. n * 10 + (b - digit_zero)) 0 digits
 
 abbrev pub int_value : Bool → ℕ → ℤ
 int_value true n = neg_ℤ (pos n)
@@ -39,9 +34,9 @@ char_value (coded u) = unit_value u
 char_value (paired u v) = pair_value (unit_value u) (unit_value v)
 
 -- the characters of a string in UTF-8
-abbrev pub content : List Char → List ℕ
-content [] = []
-content (c ∷ cs) = encode_utf8 (char_value c) ++ content cs
+abbrev pub string_content : List Char → List ℕ
+string_content [] = []
+string_content (c ∷ cs) = encode_utf8 (char_value c) ++ string_content cs
 
 -- the value of a tree whose first byte stands at a place
 abbrev mutual
@@ -49,37 +44,37 @@ abbrev mutual
   value_at p null = Null p
   value_at p (boolean b) = a_bool p b
   value_at p (number minus digits fraction exponent) = Int p (int_value minus (magnitude digits))
-  value_at p (string cs) = Text p (content cs)
+  value_at p (string cs) = Text p (string_content cs)
   value_at p (array es) = a_list p (items_at (p + 1) [] es)
   value_at p (object ms) = Object p (members_at (p + 1) [] ms)
 
   pub items_at : ℕ → List ℕ → Elements → List OrderedJson
-  items_at p comma (no_elements s) = []
-  items_at p comma (element s s' t es) =
-      let q = p + length (lead s comma s') in
-      value_at q t ∷ items_at (q + length (print t)) (44 ∷ []) es
+  items_at p mark (no_elements s) = []
+  items_at p mark (element s s' t es) =
+      let q = p + length (lead s mark s') in
+      value_at q t ∷ items_at (q + length (print t)) (comma ∷ []) es
 
   pub members_at : ℕ → List ℕ → Members → List Member
-  members_at p comma (no_members s) = []
-  members_at p comma (member s s' k r r' t ms) =
-      let q = p + length (lead s comma s') in
-      let v = q + length (print_string k ++ colon r r') in
-      member_of (content k) q (value_at v t) ∷ members_at (v + length (print t)) (44 ∷ []) ms
+  members_at p mark (no_members s) = []
+  members_at p mark (member s s' k r r' t ms) =
+      let q = p + length (lead s mark s') in
+      let v = q + length (print_string k ++ key_end r r') in
+      member_of (string_content k) q (value_at v t) ∷ members_at (v + length (print t)) (comma ∷ []) ms
 
 -- whether one of the keys has these bytes
 abbrev pub has_key : List ℕ → List (List ℕ) → Bool
 has_key key keys = list_any (bytes_eq key) keys
 
 -- Nothing in the tree is refused: each number is whole and fits, arrays and objects nest at most
--- `max_depth` deep where `depth` of them stand around, and no object has a key twice.
+-- `MAX_LEVELS` deep where `depth` of them stand around, and no object has a key twice.
 abbrev mutual
   pub IsTaken : ℕ → Tree → Type 0
   IsTaken depth null = ⊤
   IsTaken depth (boolean b) = ⊤
   IsTaken depth (number minus digits fraction exponent) = (fraction ≡ []) × (exponent ≡ []) × (fits minus (magnitude digits) ≡ true)
   IsTaken depth (string cs) = ⊤
-  IsTaken depth (array es) = (depth < max_depth) × ElementsTaken (suc depth) es
-  IsTaken depth (object ms) = (depth < max_depth) × MembersTaken (suc depth) [] ms
+  IsTaken depth (array es) = (depth < MAX_LEVELS) × ElementsTaken (suc depth) es
+  IsTaken depth (object ms) = (depth < MAX_LEVELS) × MembersTaken (suc depth) [] ms
 
   pub ElementsTaken : ℕ → Elements → Type 0
   ElementsTaken depth (no_elements s) = ⊤
@@ -89,7 +84,7 @@ abbrev mutual
   pub MembersTaken : ℕ → List (List ℕ) → Members → Type 0
   MembersTaken depth keys (no_members s) = ⊤
   MembersTaken depth keys (member s s' k r r' t ms) =
-      (has_key (content k) keys ≡ false) × IsTaken depth t × MembersTaken depth (keys ++ content k ∷ []) ms
+      (has_key (string_content k) keys ≡ false) × IsTaken depth t × MembersTaken depth (keys ++ string_content k ∷ []) ms
 
 -- the text is a JSON text in which nothing is refused, and this is its value
 abbrev pub HasValue : List ℕ → OrderedJson → Type 0
@@ -99,7 +94,7 @@ HasValue text json =
 
 -- the text is short enough, nothing in it is refused, and this is its value
 abbrev pub Means : List ℕ → OrderedJson → Type 0
-Means text json = (length text ≤ max_len) × HasValue text json
+Means text json = (length text ≤ MAX_TEXT) × HasValue text json
 
 -- the text has no meaning: it is no JSON text, or something in it is refused
 abbrev pub IsMeaningless : List ℕ → Type 0

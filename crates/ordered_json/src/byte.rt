@@ -1,3 +1,4 @@
+//! What the bytes of a text are for.
 ghost use Rattle.std.specs.Prelude.{◌≡◌};
 ghost use Rattle.ordered_json.specs.Grammar as grammar;
 ghost use Rattle.ordered_json.specs.Faults as faults;
@@ -13,7 +14,7 @@ pub fn is_blank(byte: u8) -> bool
 pub fn is_decimal(byte: u8) -> bool
     ensures { result ≡ grammar.is_decimal byte }
 {
-    b'0' <= byte && byte <= b'9'
+    byte.is_ascii_digit()
 }
 
 /// Whether a number that goes on with the byte has a fraction or an exponent (RFC 8259, section 6).
@@ -28,19 +29,13 @@ pub fn is_mark(byte: u8) -> bool
 pub fn escape_value(byte: u8) -> u8
     ensures { result ≡ grammar.escape_value byte }
 {
-    if byte == b'"' || byte == b'\\' || byte == b'/' {
-        byte
-    } else if byte == b'b' {
-        8
-    } else if byte == b'f' {
-        12
-    } else if byte == b'n' {
-        10
-    } else if byte == b'r' {
-        13
-    } else if byte == b't' {
-        9
-    } else {
-        0
+    match byte {
+        b'"' | b'\\' | b'/' => byte,
+        b'b' => b'\x08',
+        b'f' => b'\x0C',
+        b'n' => b'\n',
+        b'r' => b'\r',
+        b't' => b'\t',
+        _ => 0,
     }
 }

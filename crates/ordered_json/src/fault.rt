@@ -1,7 +1,9 @@
+//! Why a text is refused.
 ghost use Rattle.std.specs.Prelude.{◌≡◌};
 ghost use Rattle.ordered_json.specs.declared.fault.JsonFault.TheVariants.{Memory};
 ghost use Rattle.ordered_json.specs.Words.{fault_place};
 
+use crate::MAX_TEXT;
 use std::alloc::AllocError;
 use thiserror::Error;
 
@@ -22,10 +24,10 @@ pub enum JsonFault {
     /// A whole number outside 64 bits with a sign, at its first byte.
     #[error("the number at byte {0} does not fit 64 bits")]
     Range(usize),
-    /// The bracket that opens a 65th level.
+    /// The bracket that opens a level more than `MAX_LEVELS`.
     #[error("the bracket at byte {0} opens a 65th level")]
     TooDeep(usize),
-    /// A text of more than 1,048,576 bytes.
+    /// A text of more than `MAX_TEXT` bytes.
     #[error("the text is longer than 1048576 bytes")]
     TooLong,
     /// Memory ran out.
@@ -34,7 +36,7 @@ pub enum JsonFault {
 }
 
 impl JsonFault {
-    /// Where the fault stands: `TooLong` at 1048576, `Memory` at 0.
+    /// Where the fault stands: `TooLong` at `MAX_TEXT`, `Memory` at 0.
     pub fn place(self) -> usize
         ensures { result ≡ fault_place self }
     {
@@ -44,7 +46,7 @@ impl JsonFault {
             | JsonFault::Fraction(place)
             | JsonFault::Range(place)
             | JsonFault::TooDeep(place) => place,
-            JsonFault::TooLong => 1_048_576,
+            JsonFault::TooLong => MAX_TEXT,
             JsonFault::Memory => 0,
         }
     }

@@ -1,4 +1,5 @@
-ghost use Rattle.std.specs.Prelude.{◌≡◌, [], ◌∷◌, ◌++◌, ◌≢◌, length, MatchOption, IfOk, IfErr, OnOk, Ok, Err};
+//! The arrays and objects that are open.
+ghost use Rattle.std.specs.Prelude.{◌≡◌, [], ◌∷◌, length, MatchOption, IfOk, IfErr, OnOk, Ok};
 
 use crate::members::OpenMembers;
 use crate::{JsonFault, OrderedJson};
@@ -29,7 +30,7 @@ pub enum Level {
 }
 
 impl Level {
-    ghost use Rattle.ordered_json.specs.Steps.{with_value};
+    ghost use Rattle.ordered_json.specs.Steps.{with_value, IsFaultOf};
 
     /// The level with one more value, which stands before `place`.
     pub fn with_value(
@@ -39,7 +40,7 @@ impl Level {
         json: OrderedJson,
     ) -> Result<Level, JsonFault>
         ensures ok { IfOk result (λ more. with_value place json self ≡ Ok more) }
-        ensures err { IfErr result (λ fault. fault ≢ JsonFault.Memory → with_value place json self ≡ Err fault) }
+        ensures err { IfErr result (IsFaultOf (with_value place json self)) }
     {
         match self {
             Level::List { place, mut items } => match items.push(json) {
@@ -131,7 +132,8 @@ impl Levels {
 
     /// Takes the innermost out.
     pub fn pop(&mut self) -> Option<Level>
-        ensures { MatchOption result ((self.old ≡ []) × (self.new ≡ [])) (λ level. self.old ≡ level ∷ self.new) }
+        ensures { MatchOption result ((self.old ≡ []) × (self.new ≡ []))
+            (λ level. self.old ≡ level ∷ self.new) }
     {
         self.levels.pop()
     }

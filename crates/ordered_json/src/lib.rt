@@ -11,6 +11,7 @@ mod fault;
 mod json;
 pub mod laws;
 mod level;
+mod lookup;
 mod members;
 mod mode;
 mod reader;
@@ -21,13 +22,17 @@ mod whole;
 
 pub use fault::JsonFault;
 pub use json::{Member, OrderedJson};
+pub use lookup::{get, get_list, get_object, get_text};
 use std::alloc::Global;
 
 /// How many bytes a text may have.
-const MAX_LEN: usize = 1_048_576;
+pub const MAX_TEXT: usize = 1_048_576;
+
+/// How deep arrays and objects may nest.
+pub const MAX_LEVELS: usize = 64;
 
 /// Reads a JSON text (RFC 8259 in UTF-8 whose escapes give Unicode text, with no byte order mark) of at
-/// most 1,048,576 bytes, whole numbers of 64 bits and 64 levels; `-0` is 0. Of several faults the first
+/// most `MAX_TEXT` bytes, whole numbers of 64 bits and `MAX_LEVELS` levels; `-0` is 0. Of several faults the first
 /// from left to right is answered. The cost is linear in the text, but for the look-up of each key among
 /// those of its object.
 pub fn read(alloc: Global, text: &[u8]) -> Result<OrderedJson, JsonFault>
@@ -35,7 +40,7 @@ pub fn read(alloc: Global, text: &[u8]) -> Result<OrderedJson, JsonFault>
     ensures fault { IfErr result (λ fault. HasFault text.now fault) }
     ensures refused { IfErr result (λ fault. fault ≢ JsonFault.Memory → IsMeaningless text.now) }
 {
-    if text.len() > MAX_LEN {
+    if text.len() > MAX_TEXT {
         return Err(JsonFault::TooLong);
     }
     whole::read_whole(alloc, text)

@@ -1,3 +1,4 @@
+//! The members of an object that is open.
 ghost use Rattle.std.specs.Prelude.{◌≡◌, [], ◌∷◌, ◌++◌, map, IfOk, OnOk};
 ghost use Rattle.ordered_json.specs.Words.{key_of, member_of};
 ghost use Rattle.ordered_json.specs.Meaning.{has_key};
@@ -8,7 +9,8 @@ use std::collections::BTreeSet;
 use std::marker::Model;
 use xs_data::{Items, Text};
 
-/// The members of an open object so far. Contracts see them as their list.
+/// The members of an open object so far. Contracts see them as their list. Each key is there twice
+/// until the object closes, among the members and in the set by which it is found again.
 #[derive(Drop)]
 pub struct OpenMembers {
     members: Items<Member>,

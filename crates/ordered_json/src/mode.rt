@@ -1,3 +1,4 @@
+//! What may stand next in a text, and what is half read.
 ghost use Rattle.std.specs.Prelude.{◌≡◌};
 
 use crate::OrderedJson;
@@ -17,39 +18,51 @@ pub enum Mode {
     Colon,
     /// A comma or the closing bracket of the innermost level, or the end of the text where none is open.
     After,
-    /// The next letter of `null`, `true` or `false`, of which `read` letters were read.
-    Word {
-        place: usize,
-        word: Word,
-        read: usize,
-    },
-    /// The first digit of a number, after its minus.
-    Minus {
-        place: usize,
-    },
+    /// The next letter of a literal name.
+    Name(OpenName),
+    /// The first digit of a number, after its minus, which stands at the place.
+    Minus { place: usize },
     /// The end of the number 0.
-    Zero {
-        place: usize,
-        minus: bool,
-    },
-    /// A further digit, or the end of the number. The digits so far spell `magnitude`, or a number
-    /// that is at least `u64::MAX` where this is `u64::MAX`.
-    Digits {
-        place: usize,
-        minus: bool,
-        magnitude: u64,
-    },
-    /// A character of a string, which is a key or a value, or its closing quote.
-    Text {
-        place: usize,
-        is_key: bool,
-        at: Spelling,
-    },
+    Zero(OpenNumber),
+    /// A further digit, or the end of the number.
+    Digits(OpenNumber),
+    /// A further byte of a string.
+    Text(OpenText),
 }
 
-/// The three literal names.
+/// A literal name of which the first letters are read.
 #[derive(Clone, Copy, Debug)]
-pub enum Word {
+pub struct OpenName {
+    /// Where the name begins.
+    pub place: usize,
+    pub name: LiteralName,
+    /// How many letters are read.
+    pub read: usize,
+}
+
+/// A number of which some digits are read.
+#[derive(Clone, Copy, Debug)]
+pub struct OpenNumber {
+    /// Where the number begins, at its minus if it has one.
+    pub place: usize,
+    pub minus: bool,
+    /// What the digits so far spell, or `u64::MAX` where that is more.
+    pub magnitude: u64,
+}
+
+/// A string of which some characters are read.
+#[derive(Clone, Copy, Debug)]
+pub struct OpenText {
+    /// Where its opening quote stands.
+    pub place: usize,
+    pub is_key: bool,
+    /// How far its next character is read.
+    pub spelling: Spelling,
+}
+
+/// The three literal names (RFC 8259, section 3).
+#[derive(Clone, Copy, Debug)]
+pub enum LiteralName {
     Null,
     True,
     False,
@@ -65,7 +78,7 @@ pub struct Unit {
 }
 
 impl Unit {
-    ghost use Rattle.ordered_json.specs.Steps.{hex_unit};
+    ghost use Rattle.ordered_json.specs.Spell.{hex_unit};
 
     /// The digits in their order.
     pub fn new(first: u8, second: u8, third: u8, fourth: u8) -> Unit
@@ -80,7 +93,7 @@ impl Unit {
     }
 }
 
-/// How far a character of a string was read, with the bytes of it that are still needed.
+/// How far a character of a string is read, with the bytes of it that are still needed.
 #[derive(Clone, Copy, Debug)]
 pub enum Spelling {
     /// Between two characters.
@@ -107,35 +120,6 @@ pub enum Spelling {
     Lead3(u8, u8, u8),
 }
 
-impl Word {
-    ghost use Rattle.ordered_json.specs.Steps.{word_text, word_value};
-
-    /// The letters.
-    pub fn text(self) -> &'static [u8]
-        ensures { result.now ≡ word_text self }
-    {
-        match self {
-            Word::Null => b"null",
-            Word::True => b"true",
-            Word::False => b"false",
-        }
-    }
-
-    /// The value that the name stands for.
-    pub fn value(self, place: usize) -> OrderedJson
-        ensures { result ≡ word_value place self }
-    {
-        match self {
-            Word::Null => OrderedJson::Null { place },
-            Word::True => OrderedJson::Bool { place, value: true },
-            Word::False => OrderedJson::Bool {
-                place,
-                value: false,
-            },
-        }
-    }
-}
-
 /// What a byte of a string makes of the character before it.
 #[derive(Clone, Copy, Debug)]
 pub enum Spelled {
@@ -147,4 +131,33 @@ pub enum Spelled {
     End,
     /// No character goes on so.
     Bad,
+}
+
+impl LiteralName {
+    ghost use Rattle.ordered_json.specs.Steps.{literal_letters, literal_value};
+
+    /// The letters.
+    pub fn letters(self) -> &'static [u8]
+        ensures { result.now ≡ literal_letters self }
+    {
+        match self {
+            LiteralName::Null => b"null",
+            LiteralName::True => b"true",
+            LiteralName::False => b"false",
+        }
+    }
+
+    /// The value that the name stands for.
+    pub fn value(self, place: usize) -> OrderedJson
+        ensures { result ≡ literal_value place self }
+    {
+        match self {
+            LiteralName::Null => OrderedJson::Null { place },
+            LiteralName::True => OrderedJson::Bool { place, value: true },
+            LiteralName::False => OrderedJson::Bool {
+                place,
+                value: false,
+            },
+        }
+    }
 }

@@ -1,19 +1,19 @@
-ghost use Rattle.std.specs.Prelude.{SomeIff, true, ◌≡◌, ◌≢◌, ◌+◌, ◌<◌, IfErr, IfOk, OnOk, Ok, Err, length};
+//! The reader: it takes a text byte by byte, and keeps what is open and half read.
+ghost use Rattle.std.specs.Prelude.{SomeIff, true, ◌≡◌, ◌≤◌, IfErr, IfOk, OnOk, Ok};
+ghost use Rattle.xs_data.specs.Ascii.{digit_zero};
 ghost use Rattle.ordered_json.specs.Meaning.{int_value, fits};
 ghost use Rattle.ordered_json.specs.Steps as steps;
+ghost use Rattle.ordered_json.specs.Steps.{IsFaultOf};
 
 use crate::byte::{is_blank, is_decimal, is_mark};
 use crate::level::{Awaits, Level, Levels};
 use crate::members::OpenMembers;
-use crate::mode::{Mode, Spelled, Spelling, Word};
+use crate::mode::{LiteralName, Mode, OpenName, OpenNumber, OpenText, Spelled, Spelling};
 use crate::spell::spell;
-use crate::{JsonFault, OrderedJson};
+use crate::{JsonFault, MAX_LEVELS, OrderedJson};
 use std::alloc::Global;
 use std::mem;
 use xs_data::{Items, Text};
-
-/// How deep arrays and objects may nest.
-const MAX_DEPTH: usize = 64;
 
 /// A text that was read up to some byte, without a fault.
 #[derive(Drop)]
@@ -43,7 +43,7 @@ impl Reader {
     #[tactic(auto, unfolding(crate::specs::Steps::complete))]
     fn complete(&mut self, alloc: Global, place: usize, json: OrderedJson) -> Result<(), JsonFault>
         ensures ok { OnOk result (steps.complete place json self.old ≡ Ok self.new) }
-        ensures err { IfErr result (λ fault. fault ≢ JsonFault.Memory → steps.complete place json self.old ≡ Err fault) }
+        ensures err { IfErr result (IsFaultOf (steps.complete place json self.old)) }
     {
         self.mode = Mode::After;
         match self.levels.pop() {
@@ -62,9 +62,9 @@ impl Reader {
     /// A bracket opens a level.
     fn open_level(&mut self, place: usize, level: Level, mode: Mode) -> Result<(), JsonFault>
         ensures ok { OnOk result (steps.open_level place level mode self.old ≡ Ok self.new) }
-        ensures err { IfErr result (λ fault. fault ≢ JsonFault.Memory → steps.open_level place level mode self.old ≡ Err fault) }
+        ensures err { IfErr result (IsFaultOf (steps.open_level place level mode self.old)) }
     {
-        if self.levels.len() >= MAX_DEPTH {
+        if self.levels.len() >= MAX_LEVELS {
             return Err(JsonFault::TooDeep(place));
         }
         self.levels.push(level)?;
@@ -76,7 +76,7 @@ impl Reader {
     #[tactic(auto, unfolding(crate::specs::Steps::close_list))]
     fn close_list(&mut self, alloc: Global, place: usize) -> Result<(), JsonFault>
         ensures ok { OnOk result (steps.close_list place self.old ≡ Ok self.new) }
-        ensures err { IfErr result (λ fault. fault ≢ JsonFault.Memory → steps.close_list place self.old ≡ Err fault) }
+        ensures err { IfErr result (IsFaultOf (steps.close_list place self.old)) }
     {
         match self.levels.pop() {
             Some(
@@ -84,14 +84,13 @@ impl Reader {
                     place: first,
                     items,
                 },
-            ) => self.complete(
-                alloc,
-                place,
-                OrderedJson::List {
+            ) => {
+                let list = OrderedJson::List {
                     place: first,
                     items,
-                },
-            ),
+                };
+                self.complete(alloc, place, list)
+            }
             _ => Err(JsonFault::Syntax(place)),
         }
     }
@@ -100,7 +99,7 @@ impl Reader {
     #[tactic(auto, unfolding(crate::specs::Steps::close_object))]
     fn close_object(&mut self, alloc: Global, place: usize) -> Result<(), JsonFault>
         ensures ok { OnOk result (steps.close_object place self.old ≡ Ok self.new) }
-        ensures err { IfErr result (λ fault. fault ≢ JsonFault.Memory → steps.close_object place self.old ≡ Err fault) }
+        ensures err { IfErr result (IsFaultOf (steps.close_object place self.old)) }
     {
         match self.levels.pop() {
             Some(
@@ -108,23 +107,22 @@ impl Reader {
                     place: first,
                     members,
                 },
-            ) => self.complete(
-                alloc,
-                place,
-                OrderedJson::Object {
+            ) => {
+                let object = OrderedJson::Object {
                     place: first,
                     members: members.into_items(),
-                },
-            ),
+                };
+                self.complete(alloc, place, object)
+            }
             _ => Err(JsonFault::Syntax(place)),
         }
     }
 
     /// A comma.
-    #[tactic(auto, unfolding(crate::specs::Steps::next))]
-    fn next(&mut self, place: usize) -> Result<(), JsonFault>
-        ensures ok { OnOk result (steps.next place self.old ≡ Ok self.new) }
-        ensures err { IfErr result (λ fault. fault ≢ JsonFault.Memory → steps.next place self.old ≡ Err fault) }
+    #[tactic(auto, unfolding(crate::specs::Steps::take_comma))]
+    fn take_comma(&mut self, place: usize) -> Result<(), JsonFault>
+        ensures ok { OnOk result (steps.take_comma place self.old ≡ Ok self.new) }
+        ensures err { IfErr result (IsFaultOf (steps.take_comma place self.old)) }
     {
         match self.levels.awaits() {
             Awaits::Value => self.mode = Mode::Value,
@@ -138,33 +136,17 @@ impl Reader {
     #[tactic(auto, unfolding(crate::specs::Steps::begin_value))]
     fn begin_value(&mut self, alloc: Global, place: usize, byte: u8) -> Result<(), JsonFault>
         ensures ok { OnOk result (steps.begin_value place byte self.old ≡ Ok self.new) }
-        ensures err { IfErr result (λ fault. fault ≢ JsonFault.Memory → steps.begin_value place byte self.old ≡ Err fault) }
+        ensures err { IfErr result (IsFaultOf (steps.begin_value place byte self.old)) }
     {
         if byte == b'"' {
-            self.mode = Mode::Text {
-                place,
-                is_key: false,
-                at: Spelling::Between,
-            };
+            self.mode = text_mode(place, false);
             Ok(())
         } else if byte == b'[' {
-            self.open_level(
-                place,
-                Level::List {
-                    place,
-                    items: Items::new(alloc),
-                },
-                Mode::FirstItem,
-            )
+            let items = Items::new(alloc);
+            self.open_level(place, Level::List { place, items }, Mode::FirstItem)
         } else if byte == b'{' {
-            self.open_level(
-                place,
-                Level::Object {
-                    place,
-                    members: OpenMembers::new(alloc),
-                },
-                Mode::FirstKey,
-            )
+            let members = OpenMembers::new(alloc);
+            self.open_level(place, Level::Object { place, members }, Mode::FirstKey)
         } else {
             self.mode = scalar_mode(place, byte)?;
             Ok(())
@@ -174,14 +156,10 @@ impl Reader {
     /// The first byte of a key.
     fn begin_key(&mut self, place: usize, byte: u8) -> Result<(), JsonFault>
         ensures ok { OnOk result (steps.begin_key place byte self.old ≡ Ok self.new) }
-        ensures err { IfErr result (λ fault. fault ≢ JsonFault.Memory → steps.begin_key place byte self.old ≡ Err fault) }
+        ensures err { IfErr result (IsFaultOf (steps.begin_key place byte self.old)) }
     {
         if byte == b'"' {
-            self.mode = Mode::Text {
-                place,
-                is_key: true,
-                at: Spelling::Between,
-            };
+            self.mode = text_mode(place, true);
             Ok(())
         } else {
             Err(JsonFault::Syntax(place))
@@ -192,7 +170,7 @@ impl Reader {
     #[tactic(auto, unfolding(crate::specs::Steps::between))]
     fn between(&mut self, alloc: Global, place: usize, byte: u8) -> Result<(), JsonFault>
         ensures ok { OnOk result (steps.between place byte self.old ≡ Ok self.new) }
-        ensures err { IfErr result (λ fault. fault ≢ JsonFault.Memory → steps.between place byte self.old ≡ Err fault) }
+        ensures err { IfErr result (IsFaultOf (steps.between place byte self.old)) }
     {
         if is_blank(byte) {
             return Ok(());
@@ -207,7 +185,7 @@ impl Reader {
                 self.mode = Mode::Value;
                 Ok(())
             }
-            Mode::After if byte == b',' => self.next(place),
+            Mode::After if byte == b',' => self.take_comma(place),
             Mode::After if byte == b']' => self.close_list(alloc, place),
             Mode::After if byte == b'}' => self.close_object(alloc, place),
             _ => Err(JsonFault::Syntax(place)),
@@ -220,23 +198,20 @@ impl Reader {
         &mut self,
         alloc: Global,
         place: usize,
-        first: usize,
-        minus: bool,
-        magnitude: u64,
+        number: OpenNumber,
     ) -> Result<(), JsonFault>
-        ensures ok { OnOk result (steps.end_number place first minus magnitude self.old ≡ Ok self.new) }
-        ensures err { IfErr result (λ fault. fault ≢ JsonFault.Memory → steps.end_number place first minus magnitude self.old ≡ Err fault) }
+        ensures ok { OnOk result (steps.end_number place number self.old ≡ Ok self.new) }
+        ensures err { IfErr result (IsFaultOf (steps.end_number place number self.old)) }
     {
-        match int_value(minus, magnitude) {
-            Some(value) => self.complete(
-                alloc,
-                place,
-                OrderedJson::Int {
-                    place: first,
+        match int_value(number.minus, number.magnitude) {
+            Some(value) => {
+                let int = OrderedJson::Int {
+                    place: number.place,
                     value,
-                },
-            ),
-            None => Err(JsonFault::Range(first)),
+                };
+                self.complete(alloc, place, int)
+            }
+            None => Err(JsonFault::Range(number.place)),
         }
     }
 
@@ -246,18 +221,16 @@ impl Reader {
         &mut self,
         alloc: Global,
         place: usize,
-        first: usize,
-        minus: bool,
-        magnitude: u64,
+        number: OpenNumber,
         byte: u8,
     ) -> Result<(), JsonFault>
-        ensures ok { OnOk result (steps.after_digits place first minus magnitude byte self.old ≡ Ok self.new) }
-        ensures err { IfErr result (λ fault. fault ≢ JsonFault.Memory → steps.after_digits place first minus magnitude byte self.old ≡ Err fault) }
+        ensures ok { OnOk result (steps.after_digits place number byte self.old ≡ Ok self.new) }
+        ensures err { IfErr result (IsFaultOf (steps.after_digits place number byte self.old)) }
     {
         if is_mark(byte) {
-            return Err(JsonFault::Fraction(first));
+            return Err(JsonFault::Fraction(number.place));
         }
-        self.end_number(alloc, place, first, minus, magnitude)?;
+        self.end_number(alloc, place, number)?;
         self.between(alloc, place, byte)
     }
 
@@ -267,85 +240,70 @@ impl Reader {
         &mut self,
         alloc: Global,
         place: usize,
-        first: usize,
-        minus: bool,
-        magnitude: u64,
+        number: OpenNumber,
         byte: u8,
     ) -> Result<(), JsonFault>
-        ensures ok { OnOk result (steps.in_digits place first minus magnitude byte self.old ≡ Ok self.new) }
-        ensures err { IfErr result (λ fault. fault ≢ JsonFault.Memory → steps.in_digits place first minus magnitude byte self.old ≡ Err fault) }
+        ensures ok { OnOk result (steps.in_digits place number byte self.old ≡ Ok self.new) }
+        ensures err { IfErr result (IsFaultOf (steps.in_digits place number byte self.old)) }
     {
         if !is_decimal(byte) {
-            return self.after_digits(alloc, place, first, minus, magnitude, byte);
+            return self.after_digits(alloc, place, number, byte);
         }
         let digit = u64::from(byte - b'0');
-        self.mode = Mode::Digits {
-            place: first,
-            minus,
-            magnitude: magnitude.saturating_mul(10).saturating_add(digit),
-        };
+        self.mode = Mode::Digits(OpenNumber {
+            place: number.place,
+            minus: number.minus,
+            magnitude: number.magnitude.saturating_mul(10).saturating_add(digit),
+        });
         Ok(())
     }
 
-    /// The byte after a number's minus.
+    /// The byte after a number's minus, which stands at `first`.
     #[tactic(auto, unfolding(crate::specs::Steps::after_minus))]
     fn after_minus(&mut self, place: usize, first: usize, byte: u8) -> Result<(), JsonFault>
         ensures ok { OnOk result (steps.after_minus place first byte self.old ≡ Ok self.new) }
-        ensures err { IfErr result (λ fault. fault ≢ JsonFault.Memory → steps.after_minus place first byte self.old ≡ Err fault) }
+        ensures err { IfErr result (IsFaultOf (steps.after_minus place first byte self.old)) }
     {
-        if byte == b'0' {
-            self.mode = Mode::Zero {
-                place: first,
-                minus: true,
-            };
-            Ok(())
-        } else if is_decimal(byte) {
-            self.mode = Mode::Digits {
-                place: first,
-                minus: true,
-                magnitude: u64::from(byte - b'0'),
-            };
-            Ok(())
-        } else {
-            Err(JsonFault::Syntax(place))
+        if !is_decimal(byte) {
+            return Err(JsonFault::Syntax(place));
         }
+        self.mode = number_mode(first, true, byte);
+        Ok(())
     }
 
-    /// A byte after the first letter of a name.
-    #[tactic(auto, unfolding(crate::specs::Steps::in_word))]
-    fn in_word(
+    /// A byte after the first letter of a literal name.
+    #[tactic(auto, unfolding(crate::specs::Steps::in_name))]
+    fn in_name(
         &mut self,
         alloc: Global,
         place: usize,
-        first: usize,
-        word: Word,
-        read: usize,
+        name: OpenName,
         byte: u8,
     ) -> Result<(), JsonFault>
-        ensures ok { OnOk result (steps.in_word place first word read byte self.old ≡ Ok self.new) }
-        ensures err { IfErr result (λ fault. fault ≢ JsonFault.Memory → steps.in_word place first word read byte self.old ≡ Err fault) }
+        ensures ok { OnOk result (steps.in_name place name byte self.old ≡ Ok self.new) }
+        ensures err { IfErr result (IsFaultOf (steps.in_name place name byte self.old)) }
     {
-        let text = word.text();
-        if read >= text.len() || text[read] != byte {
+        let letters = name.name.letters();
+        let read = name.read;
+        if read >= letters.len() || letters[read] != byte {
             return Err(JsonFault::Syntax(place));
         }
-        if read + 1 == text.len() {
-            self.complete(alloc, place, word.value(first))
-        } else {
-            self.mode = Mode::Word {
-                place: first,
-                word,
-                read: read + 1,
-            };
-            Ok(())
+        if read + 1 == letters.len() {
+            return self.complete(alloc, place, name.name.value(name.place));
         }
+        self.mode = Mode::Name(OpenName {
+            place: name.place,
+            name: name.name,
+            read: read + 1,
+        });
+        Ok(())
     }
 
     /// The closing quote of a key: its object may not have the key.
     #[tactic(auto, unfolding(crate::specs::Steps::end_key))]
     fn end_key(&mut self, alloc: Global, place: usize, first: usize) -> Result<(), JsonFault>
         ensures ok { OnOk result (steps.end_key place first self.old ≡ Ok self.new) }
-        ensures err { IfErr result (λ fault. fault ≢ JsonFault.Memory → steps.end_key place first self.old ≡ Err fault) }
+        ensures err { IfErr result (IsFaultOf (steps.end_key place first self.old)) }
     {
         let key = mem::replace(&mut self.content, Text::new(alloc));
         match self.levels.pop() {
@@ -373,21 +331,19 @@ impl Reader {
 
     /// The closing quote of a string.
     #[tactic(auto, unfolding(crate::specs::Steps::end_text))]
-    fn end_text(
-        &mut self,
-        alloc: Global,
-        place: usize,
-        first: usize,
-        is_key: bool,
-    ) -> Result<(), JsonFault>
-        ensures ok { OnOk result (steps.end_text place first is_key self.old ≡ Ok self.new) }
-        ensures err { IfErr result (λ fault. fault ≢ JsonFault.Memory → steps.end_text place first is_key self.old ≡ Err fault) }
+    fn end_text(&mut self, alloc: Global, place: usize, text: OpenText) -> Result<(), JsonFault>
+        ensures ok { OnOk result (steps.end_text place text self.old ≡ Ok self.new) }
+        ensures err { IfErr result (IsFaultOf (steps.end_text place text self.old)) }
     {
-        if is_key {
+        let first = text.place;
+        if text.is_key {
             return self.end_key(alloc, place, first);
         }
-        let text = mem::replace(&mut self.content, Text::new(alloc));
-        self.complete(alloc, place, OrderedJson::Text { place: first, text })
+        let string = OrderedJson::Text {
+            place: first,
+            text: mem::replace(&mut self.content, Text::new(alloc)),
+        };
+        self.complete(alloc, place, string)
     }
 
     /// A byte of a string.
@@ -396,64 +352,43 @@ impl Reader {
         &mut self,
         alloc: Global,
         place: usize,
-        first: usize,
-        is_key: bool,
-        at: Spelling,
+        text: OpenText,
         byte: u8,
     ) -> Result<(), JsonFault>
-        ensures ok { OnOk result (steps.in_text place first is_key at byte self.old ≡ Ok self.new) }
-        ensures err { IfErr result (λ fault. fault ≢ JsonFault.Memory → steps.in_text place first is_key at byte self.old ≡ Err fault) }
+        ensures ok { OnOk result (steps.in_text place text byte self.old ≡ Ok self.new) }
+        ensures err { IfErr result (IsFaultOf (steps.in_text place text byte self.old)) }
     {
-        match spell(at, byte) {
-            Spelled::More(at) => {
-                self.mode = Mode::Text {
-                    place: first,
-                    is_key,
-                    at,
-                };
+        match spell(text.spelling, byte) {
+            Spelled::More(spelling) => {
+                self.mode = Mode::Text(OpenText {
+                    place: text.place,
+                    is_key: text.is_key,
+                    spelling,
+                });
                 Ok(())
             }
             Spelled::Char(character) => {
-                self.mode = Mode::Text {
-                    place: first,
-                    is_key,
-                    at: Spelling::Between,
-                };
+                self.mode = text_mode(text.place, text.is_key);
                 self.content.push(character)?;
                 Ok(())
             }
-            Spelled::End => self.end_text(alloc, place, first, is_key),
+            Spelled::End => self.end_text(alloc, place, text),
             Spelled::Bad => Err(JsonFault::Syntax(place)),
         }
     }
 
     /// Takes the next byte, which stands at `place`.
-    #[tactic(auto, unfolding(crate::specs::Steps::step))]
-    pub fn step(&mut self, alloc: Global, place: usize, byte: u8) -> Result<(), JsonFault>
-        ensures ok { OnOk result (steps.step place byte self.old ≡ Ok self.new) }
-        ensures err { IfErr result (λ fault. fault ≢ JsonFault.Memory → steps.step place byte self.old ≡ Err fault) }
+    #[tactic(auto, unfolding(crate::specs::Steps::take_byte))]
+    pub fn take_byte(&mut self, alloc: Global, place: usize, byte: u8) -> Result<(), JsonFault>
+        ensures ok { OnOk result (steps.take_byte place byte self.old ≡ Ok self.new) }
+        ensures err { IfErr result (IsFaultOf (steps.take_byte place byte self.old)) }
     {
         match self.mode {
-            Mode::Text {
-                place: first,
-                is_key,
-                at,
-            } => self.in_text(alloc, place, first, is_key, at, byte),
-            Mode::Word {
-                place: first,
-                word,
-                read,
-            } => self.in_word(alloc, place, first, word, read, byte),
+            Mode::Text(text) => self.in_text(alloc, place, text, byte),
+            Mode::Name(name) => self.in_name(alloc, place, name, byte),
             Mode::Minus { place: first } => self.after_minus(place, first, byte),
-            Mode::Zero {
-                place: first,
-                minus,
-            } => self.after_digits(alloc, place, first, minus, 0, byte),
-            Mode::Digits {
-                place: first,
-                minus,
-                magnitude,
-            } => self.in_digits(alloc, place, first, minus, magnitude, byte),
+            Mode::Zero(number) => self.after_digits(alloc, place, number, byte),
+            Mode::Digits(number) => self.in_digits(alloc, place, number, byte),
             Mode::Value
             | Mode::FirstItem
             | Mode::FirstKey
@@ -467,18 +402,10 @@ impl Reader {
     #[tactic(auto, unfolding(crate::specs::Steps::settle))]
     fn settle(&mut self, alloc: Global, place: usize) -> Result<(), JsonFault>
         ensures ok { OnOk result (steps.settle place self.old ≡ Ok self.new) }
-        ensures err { IfErr result (λ fault. fault ≢ JsonFault.Memory → steps.settle place self.old ≡ Err fault) }
+        ensures err { IfErr result (IsFaultOf (steps.settle place self.old)) }
     {
         match self.mode {
-            Mode::Zero {
-                place: first,
-                minus,
-            } => self.end_number(alloc, place, first, minus, 0),
-            Mode::Digits {
-                place: first,
-                minus,
-                magnitude,
-            } => self.end_number(alloc, place, first, minus, magnitude),
+            Mode::Zero(number) | Mode::Digits(number) => self.end_number(alloc, place, number),
             _ => Ok(()),
         }
     }
@@ -486,7 +413,7 @@ impl Reader {
     /// The value of the text that was read, which has `len` bytes.
     pub fn finish(mut self, alloc: Global, len: usize) -> Result<OrderedJson, JsonFault>
         ensures ok { IfOk result (λ json. steps.finish len (Ok self) ≡ Ok json) }
-        ensures err { IfErr result (λ fault. fault ≢ JsonFault.Memory → steps.finish len (Ok self) ≡ Err fault) }
+        ensures err { IfErr result (IsFaultOf (steps.finish len (Ok self))) }
     {
         self.settle(alloc, len)?;
         let Reader {
@@ -499,36 +426,55 @@ impl Reader {
     }
 }
 
+/// The mode at the start of a string, and after each of its characters.
+fn text_mode(place: usize, is_key: bool) -> Mode
+    ensures { result ≡ steps.text_mode place is_key }
+{
+    Mode::Text(OpenText {
+        place,
+        is_key,
+        spelling: Spelling::Between,
+    })
+}
+
+/// The mode after the first letter of a literal name.
+fn name_mode(place: usize, name: LiteralName) -> Mode
+    ensures { result ≡ steps.name_mode place name }
+{
+    Mode::Name(OpenName {
+        place,
+        name,
+        read: 1,
+    })
+}
+
+/// The mode after the first digit of a number: no digit follows 0.
+fn number_mode(place: usize, minus: bool, digit: u8) -> Mode
+    requires { digit_zero ≤ digit }
+    ensures { result ≡ steps.number_mode place minus digit }
+{
+    let number = OpenNumber {
+        place,
+        minus,
+        magnitude: u64::from(digit - b'0'),
+    };
+    if digit == b'0' {
+        Mode::Zero(number)
+    } else {
+        Mode::Digits(number)
+    }
+}
+
 /// The mode after the first byte of a value that is no string, array or object.
 fn scalar_mode(place: usize, byte: u8) -> Result<Mode, JsonFault>
     ensures { result ≡ steps.scalar_mode place byte }
 {
     match byte {
-        b'n' => Ok(Mode::Word {
-            place,
-            word: Word::Null,
-            read: 1,
-        }),
-        b't' => Ok(Mode::Word {
-            place,
-            word: Word::True,
-            read: 1,
-        }),
-        b'f' => Ok(Mode::Word {
-            place,
-            word: Word::False,
-            read: 1,
-        }),
+        b'n' => Ok(name_mode(place, LiteralName::Null)),
+        b't' => Ok(name_mode(place, LiteralName::True)),
+        b'f' => Ok(name_mode(place, LiteralName::False)),
         b'-' => Ok(Mode::Minus { place }),
-        b'0' => Ok(Mode::Zero {
-            place,
-            minus: false,
-        }),
-        b'1'..=b'9' => Ok(Mode::Digits {
-            place,
-            minus: false,
-            magnitude: u64::from(byte - b'0'),
-        }),
+        b'0'..=b'9' => Ok(number_mode(place, false, byte)),
         _ => Err(JsonFault::Syntax(place)),
     }
 }

@@ -1,7 +1,8 @@
+//! The characters of a string, byte by byte.
 ghost use Rattle.std.specs.Prelude.{◌≡◌, ◌≤◌, ◌<◌, ◌^◌, ◌&&◌, cond, nat_le};
 ghost use Rattle.std.specs.Char.{digit_value, is_digit};
 ghost use Rattle.ordered_json.specs.Grammar as grammar;
-ghost use Rattle.ordered_json.specs.Steps as steps;
+ghost use Rattle.ordered_json.specs.Spell as spells;
 ghost use Rattle.ordered_json.specs.declared.mode.Spelled.TheVariants as spelled;
 
 use crate::byte::escape_value;
@@ -9,7 +10,7 @@ use crate::mode::{Spelled, Spelling, Unit};
 
 /// Reads one byte of a string (RFC 8259, section 7, over UTF-8 of RFC 3629).
 pub fn spell(at: Spelling, byte: u8) -> Spelled
-    ensures { result ≡ steps.spell at byte }
+    ensures { result ≡ spells.spell at byte }
 {
     match at {
         Spelling::Between => spell_first(byte),
@@ -51,7 +52,7 @@ fn is_low_second(byte: u8) -> bool
 
 /// The first byte of a character, or the closing quote.
 fn spell_first(byte: u8) -> Spelled
-    ensures { result ≡ steps.spell Spelling.Between byte }
+    ensures { result ≡ spells.spell Spelling.Between byte }
 {
     match byte {
         b'"' => Spelled::End,
@@ -65,7 +66,7 @@ fn spell_first(byte: u8) -> Spelled
 
 /// The byte after a backslash.
 fn spell_escape(byte: u8) -> Spelled
-    ensures { result ≡ steps.spell Spelling.Backslash byte }
+    ensures { result ≡ spells.spell Spelling.Backslash byte }
 {
     if byte == b'u' {
         return Spelled::More(Spelling::Hex0);
@@ -78,7 +79,7 @@ fn spell_escape(byte: u8) -> Spelled
 
 /// The second byte of a character in UTF-8.
 fn spell_second(first: u8, second: u8) -> Spelled
-    ensures { result ≡ steps.after_second first second }
+    ensures { result ≡ spells.after_second first second }
 {
     if first < 0xE0 {
         char_of(u32::from(first % 32) * 64 + u32::from(second % 64))
@@ -89,7 +90,7 @@ fn spell_second(first: u8, second: u8) -> Spelled
 
 /// The third byte of a character in UTF-8.
 fn spell_third(first: u8, second: u8, third: u8) -> Spelled
-    ensures { result ≡ steps.after_third first second third }
+    ensures { result ≡ spells.after_third first second third }
 {
     if first < 0xF0 {
         char_of((u32::from(first % 16) * 64 + u32::from(second % 64)) * 64 + u32::from(third % 64))
@@ -100,7 +101,7 @@ fn spell_third(first: u8, second: u8, third: u8) -> Spelled
 
 /// The code of a character of four bytes.
 fn four_bytes(first: u8, second: u8, third: u8, fourth: u8) -> u32
-    ensures { result ≡ steps.four_bytes first second third fourth }
+    ensures { result ≡ spells.four_bytes first second third fourth }
 {
     let high = u32::from(first % 8) * 64 + u32::from(second % 64);
     (high * 64 + u32::from(third % 64)) * 64 + u32::from(fourth % 64)
@@ -108,7 +109,7 @@ fn four_bytes(first: u8, second: u8, third: u8, fourth: u8) -> u32
 
 /// Whether the second byte of a character may follow its first in UTF-8.
 fn is_second(first: u8, second: u8) -> bool
-    ensures { result ≡ steps.is_second first second }
+    ensures { result ≡ spells.is_second first second }
 {
     if first == 0xE0 {
         0xA0 <= second && second <= 0xBF
@@ -125,7 +126,7 @@ fn is_second(first: u8, second: u8) -> bool
 
 /// Whether the byte is a later one of a character in UTF-8.
 fn is_tail(byte: u8) -> bool
-    ensures { result ≡ steps.is_tail byte }
+    ensures { result ≡ spells.is_tail byte }
 {
     0x80 <= byte && byte <= 0xBF
 }
@@ -152,14 +153,14 @@ fn is_hex(byte: u8) -> bool
 
 /// Whether two digits begin a code unit of UTF-16 that is no low surrogate.
 fn is_no_low(first: u8, second: u8) -> bool
-    ensures { result ≡ steps.is_no_low first second }
+    ensures { result ≡ spells.is_no_low first second }
 {
     is_hex(second) && !(digit_value(first) == 13 && digit_value(second) >= 12)
 }
 
 /// The code unit that four digits spell.
 fn hex_value(unit: Unit) -> u32
-    ensures value { result ≡ steps.hex_value unit }
+    ensures value { result ≡ spells.hex_value unit }
     ensures small { result < 2 ^ 18 }
 {
     let high = digit_value(unit.first) * 16 + digit_value(unit.second);
@@ -168,7 +169,7 @@ fn hex_value(unit: Unit) -> u32
 
 /// A character by its code.
 fn char_of(code: u32) -> Spelled
-    ensures { result ≡ steps.char_of code }
+    ensures { result ≡ spells.char_of code }
 {
     match char::from_u32(code) {
         Some(character) => Spelled::Char(character),
@@ -178,7 +179,7 @@ fn char_of(code: u32) -> Spelled
 
 /// Four digits that stand first.
 fn unit_end(unit: Unit) -> Spelled
-    ensures { result ≡ steps.unit_end unit }
+    ensures { result ≡ spells.unit_end unit }
 {
     let code = hex_value(unit);
     if is_high_surrogate(code) {
@@ -190,7 +191,7 @@ fn unit_end(unit: Unit) -> Spelled
 
 /// Four digits after those of a high surrogate.
 fn pair_end(high: Unit, low: Unit) -> Spelled
-    ensures { result ≡ steps.pair_end high low }
+    ensures { result ≡ spells.pair_end high low }
 {
     let high = hex_value(high);
     let low = hex_value(low);

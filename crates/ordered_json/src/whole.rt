@@ -1,4 +1,5 @@
-ghost use Rattle.std.specs.Prelude.{◌≡◌, ◌≢◌, IfErr, IfOk, Ok, Err, length};
+//! Reading a whole text.
+ghost use Rattle.std.specs.Prelude.{◌≡◌, IfErr, IfOk, Ok};
 ghost use Rattle.ordered_json.specs.Steps as steps;
 
 use crate::reader::Reader;
@@ -7,12 +8,12 @@ use std::alloc::Global;
 
 /// Reads a whole text, of any length.
 pub fn read_whole(alloc: Global, text: &[u8]) -> Result<OrderedJson, JsonFault>
-    ensures ok { IfOk result (λ json. steps.answer text.now ≡ Ok json) }
-    ensures err { IfErr result (λ fault. fault ≢ JsonFault.Memory → steps.answer text.now ≡ Err fault) }
+    ensures ok { IfOk result (λ json. steps.reader_answer text.now ≡ Ok json) }
+    ensures err { IfErr result (steps.IsFaultOf (steps.reader_answer text.now)) }
 {
     let mut reader = Reader::new(alloc);
     for (place, byte) in text.iter().enumerate() {
-        if let Err(fault) = reader.step(alloc, place, *byte) {
+        if let Err(fault) = reader.take_byte(alloc, place, *byte) {
             return Err(fault);
         }
     }
