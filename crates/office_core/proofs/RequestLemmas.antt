@@ -8,7 +8,7 @@ use Rattle.ordered_json.specs.declared.fault.JsonFault.TheVariants as faults
 use Rattle.ordered_json.specs.declared.json.OrderedJson.{OrderedJson}
 use Rattle.ordered_json.specs.Laws.{MeaningIsUnique}
 use Rattle.ordered_json.specs.Meaning.{Means, IsMeaningless}
-use Rattle.ordered_json.specs.Words.{members_of}
+use Rattle.ordered_json.specs.Words.{as_object}
 use Rattle.office_core.specs.declared.request.Ask.{Ask}
 use Rattle.office_core.specs.declared.request.Ask.TheVariants.{Start, Send}
 use Rattle.office_core.specs.declared.request.Request.{Request}
@@ -40,9 +40,9 @@ reads_as P Q (Err NotALine) none to from = λ x is. none x (from x is)
 reads_as P Q (Err Memory) is to from = tt
 
 -- a text with a meaning has the type and the size of its one event
-pub event_is : MeaningIsUnique → (bytes : List ℕ) (json : OrderedJson) → Means bytes json → (event : List ℕ) → IsEvent bytes event → (option_and_then type_in (members_of json) ≡ Some event) × IsTrue (is_sendable event)
+pub event_is : MeaningIsUnique → (bytes : List ℕ) (json : OrderedJson) → Means bytes json → (event : List ℕ) → IsEvent bytes event → (option_and_then type_in (as_object json) ≡ Some event) × IsTrue (is_sendable event)
 event_is unique bytes json means event is =
-    let P : OrderedJson → Type 0 = λ j. option_and_then type_in (members_of j) ≡ Some event in
+    let P : OrderedJson → Type 0 = λ j. option_and_then type_in (as_object j) ≡ Some event in
     (subst P (unique bytes is.json json is.means means) is.type_is, is.sendable)
 
 -- a text that is refused is no event's

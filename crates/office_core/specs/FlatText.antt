@@ -4,7 +4,7 @@ use Rattle.std.specs.List.{list_all, list_any, ends_with}
 use Rattle.std.specs.Str.{bytes_eq}
 use Rattle.xs_data.specs.Ascii.{full_stop, number_sign}
 use Rattle.ordered_json.specs.declared.json.OrderedJson.{OrderedJson}
-use Rattle.ordered_json.specs.Words.{text_of, items_of, members_of}
+use Rattle.ordered_json.specs.Words.{MemberParts, as_text, as_list, as_object, as_object_of, get, get_text, get_list, get_object}
 use Rattle.office_core.specs.declared.flat.FlatTransition.{FlatTransition}
 use Rattle.office_core.specs.declared.flat.FlatState.{FlatState}
 use Rattle.office_core.specs.declared.flat.FlatMachine.{FlatMachine}
@@ -20,24 +20,9 @@ found >>= next = option_and_then next found
 abbrev pub only_if : {A : Type 0} → Bool → A → Option A
 only_if test value = if test then Some value else None
 
--- a key, its place and its value
-abbrev pub Member : Type 0
-Member = List ℕ × ℕ × OrderedJson
-
 -- the keys of members, in order
-abbrev pub member_keys : List Member → List (List ℕ)
-member_keys members = map (λ member. member.0) members
-
--- the value under a key
-abbrev pub value_under : List ℕ → List Member → Option OrderedJson
-value_under key members =
-    option_map (λ member. member.2) (find (λ member. bytes_eq member.0 key) members)
-
--- the members of an object that has no other keys than these
-abbrev pub fields_of : List (List ℕ) → OrderedJson → Option (List Member)
-fields_of keys json = do
-  members ← members_of json
-  only_if (list_all (λ member. list_any (bytes_eq member.0) keys) members) members
+abbrev pub member_keys : List MemberParts → List (List ℕ)
+member_keys members = map (λ member. member.key) members
 
 -- what each value of a list means, if each has a meaning
 abbrev pub each_of : {X Y : Type 0} → (X → Option Y) → List X → Option (List Y)
@@ -62,33 +47,33 @@ unfoldable pub place_of_state : List (List ℕ) → List ℕ → Option ℕ
 place_of_state keys key = position (λ k. bytes_eq k key) keys
 
 -- a transition: a descriptor, and the key of a sibling
-abbrev pub transition_of : List (List ℕ) → Member → Option FlatTransition
+abbrev pub transition_of : List (List ℕ) → MemberParts → Option FlatTransition
 transition_of keys member = do
-  target ← text_of member.2
+  target ← as_text member.value
   state ← place_of_state keys target
-  only_if (is_descriptor member.0) (record { descriptor = member.0; state = state })
+  only_if (is_descriptor member.key) (record { descriptor = member.key; state = state })
 
 -- the transitions of a state, none where it has no `on`
 abbrev pub transitions_of : List (List ℕ) → Option OrderedJson → Option (List FlatTransition)
 transitions_of keys None = Some []
 transitions_of keys (Some on) = do
-  members ← members_of on
+  members ← as_object on
   each_of (transition_of keys) members
 
 -- a state: an object with `on` at most
-abbrev pub state_of : List (List ℕ) → Member → Option FlatState
+abbrev pub state_of : List (List ℕ) → MemberParts → Option FlatState
 state_of keys member = do
-  fields ← fields_of (codes "on" ∷ []) member.2
-  transitions ← transitions_of keys (value_under (codes "on") fields)
-  only_if (is_state_key member.0) (record { key = member.0; transitions = transitions })
+  fields ← as_object_of (codes "on" ∷ []) member.value
+  transitions ← transitions_of keys (get (codes "on") fields)
+  only_if (is_state_key member.key) (record { key = member.key; transitions = transitions })
 
 -- a machine: an `id` that isn't empty, states, and the key of the initial one
 abbrev pub machine_in : OrderedJson → Option FlatMachine
 machine_in json = do
-  fields ← fields_of (codes "id" ∷ codes "initial" ∷ codes "states" ∷ []) json
-  id ← value_under (codes "id") fields >>= text_of
-  initial ← value_under (codes "initial") fields >>= text_of
-  members ← value_under (codes "states") fields >>= members_of
+  fields ← as_object_of (codes "id" ∷ codes "initial" ∷ codes "states" ∷ []) json
+  id ← get_text (codes "id") fields
+  initial ← get_text (codes "initial") fields
+  members ← get_object (codes "states") fields
   states ← each_of (state_of (member_keys members)) members
   place ← place_of_state (member_keys members) initial
   only_if (nat_lt 0 (length id)) (record { id = id; initial = place; states = states })
@@ -101,9 +86,9 @@ are_distinct (text ∷ texts) = not (list_any (bytes_eq text) texts) && are_dist
 -- an office: machines of distinct ids, and implementations, which are empty
 abbrev pub office_in : OrderedJson → Option (List FlatMachine)
 office_in json = do
-  fields ← fields_of (codes "machines" ∷ codes "implementations" ∷ []) json
-  texts ← value_under (codes "machines") fields >>= items_of
-  implementations ← value_under (codes "implementations") fields >>= members_of
+  fields ← as_object_of (codes "machines" ∷ codes "implementations" ∷ []) json
+  texts ← get_list (codes "machines") fields
+  implementations ← get_object (codes "implementations") fields
   machines ← each_of machine_in texts
   only_if
       (nat_eq (length implementations) 0 && are_distinct (map (λ machine. machine.id) machines))

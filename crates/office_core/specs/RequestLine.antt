@@ -6,7 +6,7 @@ use Rattle.std.specs.Str.{bytes_eq}
 use Rattle.json.specs.Print.{quoted}
 use Rattle.xs_data.specs.Ascii.{space, hyphen}
 use Rattle.ordered_json.specs.declared.json.OrderedJson.{OrderedJson}
-use Rattle.ordered_json.specs.Words.{text_of, members_of}
+use Rattle.ordered_json.specs.Words.{MemberParts, as_text, as_object}
 use Rattle.ordered_json.specs.Meaning.{Means}
 use Rattle.office_core.specs.declared.request.Ask.{Ask}
 use Rattle.office_core.specs.declared.request.Ask.TheVariants.{Start, Send}
@@ -14,7 +14,6 @@ use Rattle.office_core.specs.declared.request.Request.{Request}
 use Rattle.office_core.specs.declared.request_line.LineFault.{LineFault}
 use Rattle.office_core.specs.declared.request_line.LineFault.TheVariants.{NotALine, Memory}
 use Rattle.office_core.specs.declared.request_line.TheConstants.{MAX_LINE, MAX_CALLER, MAX_NAME, MAX_EVENT}
-use Rattle.office_core.specs.FlatText.{Member}
 
 -- the parts of a line, with one space between them
 abbrev pub spaced_text : List (List ℕ) → List ℕ
@@ -38,8 +37,8 @@ pub record IsName (name : List ℕ) : Type 0 where
   pub visible : All (λ b. space < b) name
 
 -- the type of an event: of an object whose one member is `type`, a text
-abbrev pub type_in : List Member → Option (List ℕ)
-type_in (member ∷ []) = if bytes_eq member.0 (codes "type") then text_of member.2 else None
+abbrev pub type_in : List MemberParts → Option (List ℕ)
+type_in (member ∷ []) = if bytes_eq member.key (codes "type") then as_text member.value else None
 type_in _ = None
 
 -- the compact text of an event of this type
@@ -55,7 +54,7 @@ is_sendable type =
 pub record IsEvent (text type : List ℕ) : Type 0 where
   pub json : OrderedJson
   pub means : Means text json
-  pub type_is : option_and_then type_in (members_of json) ≡ Some type
+  pub type_is : option_and_then type_in (as_object json) ≡ Some type
   pub sendable : IsTrue (is_sendable type)
 
 -- what is asked for: `start MACHINE - null`, or `send ACTOR JSON`

@@ -8,11 +8,8 @@ ghost use Rattle.office_core.specs.FlatText.{ReadsOffice, office_in, machine_in,
 use crate::flat::{
     FlatMachine, FlatMachines, FlatState, FlatStates, FlatTransition, FlatTransitions,
 };
-use crate::json_words::{
-    fields_of, items_under, members_of, members_under, text_of, text_under, value_under,
-};
 use crate::places::Places;
-use ordered_json::{Member, OrderedJson};
+use ordered_json::{Member, OrderedJson, get, get_list, get_object, get_text};
 use std::alloc::{AllocError, Global};
 use std::collections::BTreeSet;
 use thiserror::Error;
@@ -46,9 +43,11 @@ impl From<AllocError> for FlatFault {
 pub fn read_flat(alloc: Global, text: &OrderedJson) -> Result<FlatMachines, FlatFault>
     ensures { ReadsOffice (office_in text.now) result }
 {
-    let fields = fields_of(text, &["machines", "implementations"]).ok_or(FlatFault::NotFlat)?;
-    let texts = items_under(fields, "machines").ok_or(FlatFault::NotFlat)?;
-    let implementations = members_under(fields, "implementations").ok_or(FlatFault::NotFlat)?;
+    let fields = text
+        .as_object_of(&["machines", "implementations"])
+        .ok_or(FlatFault::NotFlat)?;
+    let texts = get_list(fields, "machines").ok_or(FlatFault::NotFlat)?;
+    let implementations = get_object(fields, "implementations").ok_or(FlatFault::NotFlat)?;
     let machines = read_machines(alloc, texts)?;
     let distinct = are_distinct(alloc, machines.as_slice())?;
     if !implementations.is_empty() || !distinct {
@@ -75,10 +74,12 @@ fn read_machines(alloc: Global, texts: &[OrderedJson]) -> Result<FlatMachines, F
 fn read_machine(alloc: Global, json: &OrderedJson) -> Result<FlatMachine, FlatFault>
     ensures { ReadsOffice (machine_in json.now) result }
 {
-    let fields = fields_of(json, &["id", "initial", "states"]).ok_or(FlatFault::NotFlat)?;
-    let id = text_under(fields, "id").ok_or(FlatFault::NotFlat)?;
-    let initial = text_under(fields, "initial").ok_or(FlatFault::NotFlat)?;
-    let members = members_under(fields, "states").ok_or(FlatFault::NotFlat)?;
+    let fields = json
+        .as_object_of(&["id", "initial", "states"])
+        .ok_or(FlatFault::NotFlat)?;
+    let id = get_text(fields, "id").ok_or(FlatFault::NotFlat)?;
+    let initial = get_text(fields, "initial").ok_or(FlatFault::NotFlat)?;
+    let members = get_object(fields, "states").ok_or(FlatFault::NotFlat)?;
     let places = Places::of(alloc, members)?;
     let states = read_states(alloc, &places, members)?;
     let initial = places.find(initial.as_str()).ok_or(FlatFault::NotFlat)?;
@@ -111,8 +112,11 @@ fn read_states(alloc: Global, places: &Places, members: &[Member]) -> Result<Fla
 fn read_state(alloc: Global, places: &Places, member: &Member) -> Result<FlatState, FlatFault>
     ensures { ReadsOffice (state_of places.now (member_parts member.now)) result }
 {
-    let fields = fields_of(&member.value, &["on"]).ok_or(FlatFault::NotFlat)?;
-    let transitions = read_transitions(alloc, places, value_under(fields, "on"))?;
+    let fields = member
+        .value
+        .as_object_of(&["on"])
+        .ok_or(FlatFault::NotFlat)?;
+    let transitions = read_transitions(alloc, places, get(fields, "on"))?;
     if !is_state_key(member.key.as_bytes()) {
         return Err(FlatFault::NotFlat);
     }
@@ -131,7 +135,7 @@ fn read_transitions(
     let Some(on) = on else {
         return Ok(Items::new(alloc));
     };
-    let members = members_of(on).ok_or(FlatFault::NotFlat)?;
+    let members = on.as_object().ok_or(FlatFault::NotFlat)?;
     read_each_transition(alloc, places, members)
 }
 
@@ -162,7 +166,7 @@ fn read_transition(
 ) -> Result<FlatTransition, FlatFault>
     ensures { ReadsOffice (transition_of places.now (member_parts member.now)) result }
 {
-    let target = text_of(&member.value).ok_or(FlatFault::NotFlat)?;
+    let target = member.value.as_text().ok_or(FlatFault::NotFlat)?;
     let state = places.find(target.as_str()).ok_or(FlatFault::NotFlat)?;
     if !is_descriptor(member.key.as_bytes()) {
         return Err(FlatFault::NotFlat);

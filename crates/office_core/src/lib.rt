@@ -3,7 +3,6 @@
 
 mod flat;
 mod flat_text;
-mod json_words;
 pub mod laws;
 mod office;
 mod places;

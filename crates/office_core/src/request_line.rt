@@ -4,11 +4,10 @@ ghost use Rattle.std.specs.Prelude.{◌≡◌, ◌<◌, ◌↔◌, ◌==◌, All
 ghost use Rattle.std.specs.Option.{option_copied};
 ghost use Rattle.std.specs.List.{list_all};
 ghost use Rattle.xs_data.specs.Ascii.{space};
-ghost use Rattle.ordered_json.specs.Words.{members_of};
+ghost use Rattle.ordered_json.specs.Words.{as_object};
 ghost use Rattle.office_core.specs.LineParts.{IsCut, begins_number, is_spaceless, IsNumber, IsNameText, IsCallerText, IsStart, IsSend};
 ghost use Rattle.office_core.specs.RequestLine.{ReadsLine, IsAsk, IsEvent, IsRequest, is_caller, is_sendable, is_caller_byte, type_in};
 
-use crate::json_words::text_of;
 use crate::request::{Ask, Request};
 use ordered_json::{JsonFault, OrderedJson};
 use std::alloc::{AllocError, Global};
@@ -144,18 +143,15 @@ fn read_event(alloc: Global, bytes: &[u8]) -> Result<Text, LineFault>
 
 /// The text of an object whose one member is `type`, a text.
 fn type_of(json: &OrderedJson) -> Option<&Text>
-    ensures { option_copied result ≡ option_and_then type_in (members_of json.now) }
+    ensures { option_copied result ≡ option_and_then type_in (as_object json.now) }
 {
-    let OrderedJson::Object { members, .. } = json else {
-        return None;
-    };
-    let [member] = members.as_slice() else {
+    let [member] = json.as_object()? else {
         return None;
     };
     if !member.key.same(b"type") {
         return None;
     }
-    text_of(&member.value)
+    member.value.as_text()
 }
 
 /// Whether an event of this type may be sent: it isn't too long, and its type isn't one of the machines' own.
