@@ -1,7 +1,8 @@
-pub mod Images
-pub mod Progress
-pub mod SideImages
-pub mod Moments
-pub mod CrashImages
-pub mod AllPossible
-pub mod Outputs
+pub mod CrashLemmas
+pub mod DiskCallLemmas
+pub mod ImageLemmas
+pub mod MomentLemmas
+pub mod OutputLemmas
+pub mod ProgressLemmas
+pub mod SideImageLemmas
+pub mod TriedImageLemmas

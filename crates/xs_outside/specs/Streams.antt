@@ -5,6 +5,7 @@ use Rattle.std.specs.declared.option.Option.{Option}
 use Rattle.xs_outside.specs.declared.streams.Got.{Got}
 use Rattle.xs_outside.specs.declared.streams.Got.TheVariants.{Bytes, End, Failed}
 use Rattle.xs_outside.specs.declared.streams.Failed.{Failed as Refusal}
+use Rattle.xs_outside.specs.Counts.{Rose}
 
 -- how many bytes an answer hands out
 abbrev pub bytes_given : Got → ℕ
@@ -17,6 +18,12 @@ abbrev pub ReadGives : Got → List ℕ → Option (List ℕ) → Option (List �
 ReadGives (Bytes n) into before now = (1 ≤ n) × (n ≤ length into) × (before ≡ prepend_known (take n into) now)
 ReadGives End into before now = (now ≡ before) × IsAtEnd before
 ReadGives Failed into before now = now ≡ before
+
+-- the count of faults rose where the read failed, and stayed where it didn't
+abbrev pub CountsReadFailure : Got → ℕ → ℕ → Type 0
+CountsReadFailure (Bytes n) before now = now ≡ before
+CountsReadFailure End before now = now ≡ before
+CountsReadFailure Failed before now = Rose before now
 
 -- a write appended all bytes, or a front part of them where it failed
 abbrev pub WriteAdds : Result Unit Refusal → List ℕ → Option (List ℕ) → Option (List ℕ) → Type 0

@@ -3,25 +3,18 @@
 //! of calls that fail.
 #![tactic(auto)]
 
-mod buffers;
-mod crash;
 mod disk;
-mod history;
 mod memory;
-mod memory_disk;
-mod memory_station;
-mod recorded;
-mod schedule;
 mod station;
 mod streams;
 #[cfg(test)]
 mod tests;
 
-pub use crash::{Image, Images};
 pub use disk::Disk;
-pub use memory::{MemoryLink, MemorySink, MemorySource};
-pub use memory_disk::MemoryDisk;
-pub use memory_station::MemoryStation;
+pub use memory::crash::{Image, Images};
+pub use memory::disk::MemoryDisk;
+pub use memory::station::MemoryStation;
+pub use memory::streams::{MemoryLink, MemorySink, MemorySource};
 pub use station::Station;
 pub use streams::{Both, Failed, Got, Sink, Source};
 use xs_data::Items;

@@ -1,7 +1,9 @@
-// What an office is run on: its input, its output and its disk, with one clock.
-ghost use Rattle.std.specs.Prelude.{◌≡◌};
-ghost use Rattle.xs_outside.specs.Beside.{Stamped, HasMoments};
-ghost use Rattle.xs_outside.specs.Disk.{SameImages, Passes};
+//! What an office is run on: its input, its output and its disk, with one clock.
+
+ghost use Rattle.std.specs.Prelude.{Result};
+ghost use Rattle.xs_outside.specs.Station.{TellsInput, TellsOutput, LeavesDisk, StampsOutput};
+ghost use Rattle.xs_outside.specs.declared.streams.Failed.{Failed as Refusal};
+ghost use Rattle.xs_outside.specs.declared.streams.Got.{Got};
 
 use crate::{Both, Disk};
 
@@ -9,27 +11,14 @@ use crate::{Both, Disk};
 /// moment leaves one image of that moment, and the output of that moment.
 pub trait Station: Both + Disk {
     /// What the disk has beside it are the input and the output.
-    ghost tells_input: { (station : Self) → ((Self.beside station).left ≡ Self.left station)
-        × ((Self.beside station).taken ≡ Self.taken station) × ((Self.beside station).read_faults ≡ Self.read_faults station) };
+    ghost tells_input: { (station : Self) → TellsInput (Self.left station) (Self.taken station) (Self.read_faults station) (Self.state station) };
 
-    ghost tells_output: { (station : Self) → ((Self.beside station).output ≡ Self.written station)
-        × ((Self.beside station).write_faults ≡ Self.write_faults station) × HasMoments (Self.clock station) (Self.beside station) };
+    ghost tells_output: { (station : Self) → TellsOutput (Self.written station) (Self.write_faults station) (Self.state station) };
 
-    /// A read of the input leaves the disk, and the moments of the output.
-    ghost read_leaves_disk: { (old new : Self) → Self.reads old new → (Self.content new ≡ Self.content old)
-        × (Self.honest new ≡ Self.honest old) × (Self.disk_faults new ≡ Self.disk_faults old) × (Self.fetched new ≡ Self.fetched old)
-        × ((Self.beside new).moments ≡ (Self.beside old).moments) };
-
-    ghost read_leaves_images: { (old new : Self) → Self.reads old new
-        → SameImages (Self.may_leave old (Self.clock old)) (Self.may_leave new (Self.clock new))
-        × Passes (Self.clock old) (Self.clock new) (Self.may_leave old) (Self.may_leave new) };
+    /// A read of the input leaves the disk, and the output with its moments.
+    ghost read_leaves_disk: { (got : Got) (old new : Self) → Self.reads got old new → LeavesDisk (Self.state old) (Self.state new) };
 
     /// A write of output leaves the disk. The bytes get a moment of the call.
-    ghost write_leaves_disk: { (old new : Self) → Self.writes old new → (Self.content new ≡ Self.content old)
-        × (Self.honest new ≡ Self.honest old) × (Self.disk_faults new ≡ Self.disk_faults old) × (Self.fetched new ≡ Self.fetched old)
-        × Stamped (Self.clock old) (Self.clock new) (Self.beside old).moments (Self.beside new).moments };
-
-    ghost write_leaves_images: { (old new : Self) → Self.writes old new
-        → SameImages (Self.may_leave old (Self.clock old)) (Self.may_leave new (Self.clock new))
-        × Passes (Self.clock old) (Self.clock new) (Self.may_leave old) (Self.may_leave new) };
+    ghost write_leaves_disk: { (result : Result Unit Refusal) (old new : Self) → Self.writes result old new
+        → StampsOutput (Self.state old) (Self.state new) };
 }
