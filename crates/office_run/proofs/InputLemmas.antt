@@ -4,11 +4,13 @@ use Rattle.std.specs.Io.KnownBytes.{prepend_known}
 use Rattle.std.specs.Prelude.{position}
 use Rattle.std.specs.List.{position_or_len}
 use Rattle.std.proofs.lemmas.Bool.Decides.{nat_tests}
+use Rattle.xs_data.specs.Ascii.{line_feed}
+use Rattle.office_core.specs.declared.request_line.TheConstants.{MAX_LINE}
 use Rattle.office_run.specs.declared.line_buffer.LineBuffer.{LineBuffer}
 use Rattle.office_run.specs.Lines.{is_feed, has_feed}
 use Rattle.office_run.specs.declared.input.Next.TheVariants as next
-use Rattle.office_run.specs.declared.input.Fill.TheVariants as fill
-use Rattle.office_run.specs.Input.{Taken, Holds, Extends, IsReading, Moves, Fills, Gives}
+use Rattle.office_run.specs.Input.{Taken, Inflow, IsReading, MovesToLine, TakesPiece, SeesEnd, SeesMore, StaysAs, GivesNext}
+use Rattle.office_run.specs.LineBuffer.{Holds, Extends}
 use Rattle.std.proofs.lemmas.List.{drop-take, drop-drop, take-take, take_at, length-take, length-take-le}
 
 -- by both values of a test
@@ -53,10 +55,10 @@ position-none xs none = by_test (ltb (position_or_len is_feed xs) (length xs))
     (λ e. grind (arith, nat_tests))
 
 split-feed : (xs : List ℕ) → position_or_len is_feed xs < length xs →
-    (xs ≡ take (position_or_len is_feed xs) xs ++ 10 ∷ drop (suc (position_or_len is_feed xs)) xs) × (has_feed (take (position_or_len is_feed xs) xs) ≡ false)
+    (xs ≡ take (position_or_len is_feed xs) xs ++ line_feed ∷ drop (suc (position_or_len is_feed xs)) xs) × (has_feed (take (position_or_len is_feed xs) xs) ≡ false)
 split-feed [] within = absurd (omega arith)
 split-feed (x ∷ xs) within = by_test (is_feed x)
-    (λ e. let feed : x ≡ 10 = grind (arith, nat_tests) in simp e (ap (λ y. y ∷ xs) feed, refl))
+    (λ e. let feed : x ≡ line_feed = grind (arith, nat_tests) in simp e (ap (λ y. y ∷ xs) feed, refl))
     (λ e.
     let next : 1 + position_or_len is_feed xs ≡ suc (position_or_len is_feed xs) = omega arith in
     let rest = split-feed xs (let w : 1 + position_or_len is_feed xs < suc (length xs) = simp e at within in omega arith) in
@@ -69,7 +71,7 @@ none-feed (x ∷ xs) past = by_test (is_feed x)
     (λ e. let p : suc (length xs) ≤ 1 + position_or_len is_feed xs = simp e at past in simp e (none-feed xs (omega arith)))
 
 -- where the first line feed stands: the bytes before it have none
-pub feed-some : (xs : List ℕ) (place : ℕ) → position is_feed xs ≡ Some place → (xs ≡ take place xs ++ 10 ∷ drop (place + 1) xs) × (has_feed (take place xs) ≡ false) × (place < length xs)
+pub feed-some : (xs : List ℕ) (place : ℕ) → position is_feed xs ≡ Some place → (xs ≡ take place xs ++ line_feed ∷ drop (place + 1) xs) × (has_feed (take place xs) ≡ false) × (place < length xs)
 feed-some xs place found =
     let p = position-some xs place found in
     let s = split-feed xs (omega (arith, p.0, p.1)) in
@@ -101,145 +103,162 @@ take-append (suc n) (x ∷ a) b = ap (λ xs. x ∷ xs) (take-append n a b) ∙ a
 
 pub holds-more : (buffer buffer' : LineBuffer) (seen more : List ℕ) → Holds buffer seen → Extends buffer buffer' more → Holds buffer' (seen ++ more)
 holds-more buffer buffer' seen more holds extends =
-    let kept = ap length holds.bytes ∙ length-take 65536 seen in
-    let room : 65536 - length buffer.bytes.items ≡ 65536 - length seen = omega (arith, kept) in
+    let kept = ap length holds.bytes ∙ length-take MAX_LINE seen in
+    let room : MAX_LINE - length buffer.bytes.items ≡ MAX_LINE - length seen = omega (arith, kept) in
     record {
       len = omega (arith, extends.len, holds.len, length-append seen more);
-      bytes = extends.bytes ∙ ap (λ front. front ++ take (65536 - length buffer.bytes.items) more) holds.bytes
-          ∙ ap (λ n. take 65536 seen ++ take n more) room ∙ sym (take-append 65536 seen more);
+      bytes = extends.bytes ∙ ap (λ front. front ++ take (MAX_LINE - length buffer.bytes.items) more) holds.bytes
+          ∙ ap (λ n. take MAX_LINE seen ++ take n more) room ∙ sym (take-append MAX_LINE seen more);
     }
 
 -- all that waited went to the line
-pub read-on : (first now mid : Taken) (buffer buffer' : LineBuffer) (left left' : Option (List ℕ)) (before after : ℕ) →
-    IsReading first now buffer left left' before after → Moves false now mid buffer buffer' → IsReading first mid buffer' left left' before after × (mid.pending ≡ [])
-read-on first now mid buffer buffer' left left' before after r m =
-    let used : mid.used ≡ now.used + length now.pending = ap (λ t. t.used) m.2 in
-    let pending : mid.pending ≡ [] = ap (λ t. t.pending) m.2 in
+pub read-on : (first now : Inflow) (mid : Taken) (buffer buffer' : LineBuffer) (more : List ℕ) →
+    IsReading first now buffer → MovesToLine false now.input mid more → Extends buffer buffer' more →
+    IsReading first (record { input = mid; left = now.left; taken = now.taken }) buffer' × (mid.pending ≡ [])
+read-on first now mid buffer buffer' more r moves extends =
+    let used : mid.used ≡ now.input.used + length now.input.pending = ap (λ t. t.used) moves.2 in
+    let pending : mid.pending ≡ [] = ap (λ t. t.pending) moves.2 in
     let none : length mid.pending ≡ 0 = ap length pending in
-    let long = length-append r.seen now.pending in (
+    let all : length more ≡ length now.input.pending = ap length moves.0 in
+    let long = length-append r.seen more in (
       record {
-        seen = r.seen ++ now.pending;
-        no_feed = has_feed-append r.seen now.pending r.no_feed m.0;
-        holds = holds-more buffer buffer' r.seen now.pending r.holds m.1;
-        whole = r.whole ∙ prepend-both r.seen now.pending left' ∙ ap (prepend_known (r.seen ++ now.pending)) (sym (ap (λ p. prepend_known p left') pending ∙ prepend-nothing left'));
-        used = omega (arith, used, r.used, long);
+        seen = r.seen ++ more;
+        no_feed = has_feed-append r.seen more r.no_feed (ap has_feed moves.0 ∙ moves.1);
+        holds = holds-more buffer buffer' r.seen more r.holds extends;
+        whole = r.whole ∙ ap (λ p. prepend_known r.seen (prepend_known p now.left)) (sym moves.0) ∙ prepend-both r.seen more now.left
+            ∙ ap (prepend_known (r.seen ++ more)) (sym (ap (λ p. prepend_known p now.left) pending ∙ prepend-nothing now.left));
+        used = omega (arith, used, r.used, long, all);
         counted = omega (arith, used, none, r.counted);
         limited = omega (arith, used, none, r.limited);
         began = r.began;
-        ended = ap (λ t. t.ended) m.2 ∙ r.ended;
+        ended = ap (λ t. t.ended) moves.2 ∙ r.ended;
       },
       pending,
     )
 
+-- where nothing waits, all that is to come is what the source has left
+unheld : (now : Inflow) → now.input.pending ≡ [] → prepend_known now.input.pending now.left ≡ now.left
+unheld now empty = ap (λ p. prepend_known p now.left) empty ∙ prepend-nothing now.left
+
 -- the next piece came
-pub read-piece : (first mid new : Taken) (buffer : LineBuffer) (left left' left'' : Option (List ℕ)) (before after after' : ℕ) →
-    IsReading first mid buffer left left' before after → mid.pending ≡ [] → Fills fill.More mid new left' left'' after after' → IsReading first new buffer left left'' before after'
-read-piece first mid new buffer left left' left'' before after after' r empty f =
-    let none : length mid.pending ≡ 0 = ap length empty in
+pub read-piece : (first mid new : Inflow) (buffer : LineBuffer) → IsReading first mid buffer → mid.input.pending ≡ [] → TakesPiece mid new → IsReading first new buffer
+read-piece first mid new buffer r empty piece =
+    let none : length mid.input.pending ≡ 0 = ap length empty in
     record {
       seen = r.seen;
       no_feed = r.no_feed;
       holds = r.holds;
-      whole = r.whole ∙ ap (prepend_known r.seen) (ap (λ p. prepend_known p left') empty ∙ prepend-nothing left' ∙ f.0);
-      used = omega (arith, f.2, r.used);
-      counted = omega (arith, f.5, r.counted, none);
-      limited = f.4;
+      whole = r.whole ∙ ap (prepend_known r.seen) (unheld mid empty ∙ piece.piece);
+      used = omega (arith, piece.used, r.used);
+      counted = omega (arith, piece.counted, r.counted, none);
+      limited = piece.limited;
       began = r.began;
-      ended = f.3 ∙ r.ended;
+      ended = piece.ended ∙ r.ended;
     }
 
 -- ---- what comes next
 
-pub gives-fed : (first now new : Taken) (buffer buffer' : LineBuffer) (left left' : Option (List ℕ)) (before after : ℕ) →
-    IsReading first now buffer left left' before after → Moves true now new buffer buffer' → Gives next.Line first new buffer' left left' before after
-gives-fed first now new buffer buffer' left left' before after r m =
-    let more = m.0 in
+pub gives-fed : (first now : Inflow) (new : Taken) (buffer buffer' : LineBuffer) (more : List ℕ) →
+    IsReading first now buffer → MovesToLine true now.input new more → Extends buffer buffer' more →
+    GivesNext next.Line buffer' first (record { input = new; left = now.left; taken = now.taken })
+gives-fed first now new buffer buffer' more r moves extends =
+    let left = now.left in
     let long = length-append r.seen more in
-    let waits : length now.pending ≡ length more + (1 + length new.pending) = ap length m.1 ∙ length-append more (10 ∷ new.pending) ∙ ap (λ n. length more + n) (omega arith) in (
-      r.seen ++ more,
-      holds-more buffer buffer' r.seen more r.holds m.3,
-      (
-        has_feed-append r.seen more r.no_feed m.2,
-        r.began,
-        inl (
-          r.whole ∙ ap (λ p. prepend_known r.seen (prepend_known p left')) m.1 ∙ ap (prepend_known r.seen) (sym (prepend-both more (10 ∷ new.pending) left'))
-              ∙ prepend-both r.seen more (prepend_known (10 ∷ new.pending) left') ∙ ap (prepend_known (r.seen ++ more)) (sym (prepend-both (10 ∷ []) new.pending left')),
-          omega (arith, r.used, m.4, long),
-          m.5 ∙ r.ended,
-        ),
-      ),
-      omega (arith, r.counted, m.4, waits),
-      omega (arith, r.limited, m.4, waits),
-    )
+    let waits : length now.input.pending ≡ length more + (1 + length new.pending) = ap length moves.0 ∙ length-append more (line_feed ∷ new.pending) ∙ ap (λ n. length more + n) (omega arith) in
+    record {
+      gives = (
+        r.seen ++ more,
+        holds-more buffer buffer' r.seen more r.holds extends,
+        record {
+          no_feed = has_feed-append r.seen more r.no_feed moves.1;
+          goes_on = r.began;
+          ends = inl (record {
+            whole = r.whole ∙ ap (λ p. prepend_known r.seen (prepend_known p left)) moves.0 ∙ ap (prepend_known r.seen) (sym (prepend-both more (line_feed ∷ new.pending) left))
+                ∙ prepend-both r.seen more (prepend_known (line_feed ∷ new.pending) left) ∙ ap (prepend_known (r.seen ++ more)) (sym (prepend-both (line_feed ∷ []) new.pending left));
+            used = omega (arith, r.used, moves.2, long);
+            ended = moves.3 ∙ r.ended;
+          });
+        },
+      );
+      counted = omega (arith, r.counted, moves.2, waits);
+      limited = omega (arith, r.limited, moves.2, waits);
+    }
 
-pub gives-last : (first mid new : Taken) (buffer : LineBuffer) (left left' left'' : Option (List ℕ)) (before after after' : ℕ) →
-    IsReading first mid buffer left left' before after → mid.pending ≡ [] → Fills fill.End mid new left' left'' after after' → 0 < buffer.len → Gives next.Line first new buffer left left'' before after'
-gives-last first mid new buffer left left' left'' before after after' r empty f some =
-    let none : length mid.pending ≡ 0 = ap length empty in
-    let used : new.used ≡ mid.used = ap (λ t. t.used) f.2 in
-    let pending : new.pending ≡ [] = ap (λ t. t.pending) f.2 in
-    let none' : length new.pending ≡ 0 = ap length pending in (
-      r.seen,
-      r.holds,
-      (
-        r.no_feed,
-        r.began,
-        inr (
-          r.whole ∙ ap (prepend_known r.seen) (ap (λ p. prepend_known p left') empty ∙ prepend-nothing left' ∙ sym f.0),
-          record { no_feed = r.no_feed; used = omega (arith, r.used, used); pending = pending },
-          rw f.0 f.1,
-          omega (arith, r.holds.len, some),
-          ap (λ t. t.ended) f.2,
-        ),
-      ),
-      omega (arith, r.counted, f.3, used, none, none'),
-      omega (arith, r.limited, used, none, none'),
-    )
+pub gives-last : (first mid new : Inflow) (buffer : LineBuffer) → IsReading first mid buffer → mid.input.pending ≡ [] → SeesEnd mid new → 0 < buffer.len → GivesNext next.Line buffer first new
+gives-last first mid new buffer r empty sees some =
+    let none : length mid.input.pending ≡ 0 = ap length empty in
+    let used : new.input.used ≡ mid.input.used = ap (λ t. t.used) sees.input in
+    let pending : new.input.pending ≡ [] = ap (λ t. t.pending) sees.input in
+    let none' : length new.input.pending ≡ 0 = ap length pending in
+    record {
+      gives = (
+        r.seen,
+        r.holds,
+        record {
+          no_feed = r.no_feed;
+          goes_on = r.began;
+          ends = inr (record {
+            whole = r.whole ∙ ap (prepend_known r.seen) (unheld mid empty ∙ sym sees.left);
+            uses = record { no_feed = r.no_feed; used = omega (arith, r.used, used); pending = pending };
+            at_end = rw sees.left sees.at_end;
+            some = omega (arith, r.holds.len, some);
+            ended = ap (λ t. t.ended) sees.input;
+          });
+        },
+      );
+      counted = omega (arith, r.counted, sees.taken, used, none, none');
+      limited = omega (arith, r.limited, used, none, none');
+    }
 
-pub gives-end : (first mid new : Taken) (buffer : LineBuffer) (left left' left'' : Option (List ℕ)) (before after after' : ℕ) →
-    IsReading first mid buffer left left' before after → mid.pending ≡ [] → Fills fill.End mid new left' left'' after after' → buffer.len ≡ 0 → Gives next.End first new buffer left left'' before after'
-gives-end first mid new buffer left left' left'' before after after' r empty f none_yet =
-    let none : length mid.pending ≡ 0 = ap length empty in
-    let used : new.used ≡ mid.used = ap (λ t. t.used) f.2 in
-    let none' : length new.pending ≡ 0 = ap (λ t. length t.pending) f.2 in
+pub gives-end : (first mid new : Inflow) (buffer : LineBuffer) → IsReading first mid buffer → mid.input.pending ≡ [] → SeesEnd mid new → buffer.len ≡ 0 → GivesNext next.End buffer first new
+gives-end first mid new buffer r empty sees none_yet =
+    let none : length mid.input.pending ≡ 0 = ap length empty in
+    let used : new.input.used ≡ mid.input.used = ap (λ t. t.used) sees.input in
+    let none' : length new.input.pending ≡ 0 = ap (λ t. length t.pending) sees.input in
     let unseen = empty_list r.seen (omega (arith, r.holds.len, none_yet)) in
-    let whole = r.whole ∙ ap (λ s. prepend_known s (prepend_known mid.pending left')) unseen ∙ prepend-nothing (prepend_known mid.pending left') ∙ ap (λ p. prepend_known p left') empty ∙ prepend-nothing left' in
-    (inl (rw whole f.1), omega (arith, r.counted, f.3, used, none, none'), omega (arith, r.limited, used, none, none'))
+    let whole = r.whole ∙ ap (λ s. prepend_known s (prepend_known mid.input.pending mid.left)) unseen ∙ prepend-nothing (prepend_known mid.input.pending mid.left) ∙ unheld mid empty in
+    record {
+      gives = inl (rw whole sees.at_end);
+      counted = omega (arith, r.counted, sees.taken, used, none, none');
+      limited = omega (arith, r.limited, used, none, none');
+    }
   where
     empty_list : (xs : List ℕ) → length xs ≡ 0 → xs ≡ []
     empty_list [] e = refl
     empty_list (x ∷ xs) e = absurd (omega arith)
 
-pub gives-too_much : (first mid new : Taken) (buffer : LineBuffer) (left left' left'' : Option (List ℕ)) (before after after' : ℕ) →
-    IsReading first mid buffer left left' before after → mid.pending ≡ [] → Fills fill.TooMuch mid new left' left'' after after' → Gives next.TooMuch first new buffer left left'' before after'
-gives-too_much first mid new buffer left left' left'' before after after' r empty f =
-    let none : length mid.pending ≡ 0 = ap length empty in
-    let used : new.used ≡ mid.used = ap (λ t. t.used) f.3 in
-    let pending : new.pending ≡ [] = ap (λ t. t.pending) f.3 ∙ empty in (
-      (
-        r.seen,
-        f.0,
-        record { no_feed = r.no_feed; used = omega (arith, r.used, used); pending = pending },
-        r.whole ∙ ap (prepend_known r.seen) (ap (λ p. prepend_known p left') empty ∙ prepend-nothing left' ∙ f.1),
-        r.began,
-        omega (arith, used, f.2, none),
-      ),
-      omega (arith, r.counted, f.2, f.4, none),
-    )
+pub gives-too_much : (first mid new : Inflow) (buffer : LineBuffer) → IsReading first mid buffer → mid.input.pending ≡ [] → SeesMore mid new → GivesNext next.TooMuch buffer first new
+gives-too_much first mid new buffer r empty sees =
+    let none : length mid.input.pending ≡ 0 = ap length empty in
+    let used : new.input.used ≡ mid.input.used = ap (λ t. t.used) sees.input in
+    let pending : new.input.pending ≡ [] = ap (λ t. t.pending) sees.input ∙ empty in
+    let none' : length new.input.pending ≡ 0 = ap length pending in
+    record {
+      gives = record {
+        seen = r.seen;
+        byte = sees.byte;
+        uses = record { no_feed = r.no_feed; used = omega (arith, r.used, used); pending = pending };
+        whole = r.whole ∙ ap (prepend_known r.seen) (unheld mid empty ∙ sees.left);
+        goes_on = r.began;
+        full = omega (arith, used, sees.full, none);
+      };
+      counted = omega (arith, r.counted, sees.taken, used, none, none');
+      limited = omega (arith, r.limited, used, none, none');
+    }
 
-pub gives-failed : (first mid new : Taken) (buffer : LineBuffer) (left left' left'' : Option (List ℕ)) (before after after' : ℕ) →
-    IsReading first mid buffer left left' before after → mid.pending ≡ [] → Fills fill.Failed mid new left' left'' after after' → Gives next.Failed first new buffer left left'' before after'
-gives-failed first mid new buffer left left' left'' before after after' r empty f =
-    let none : length mid.pending ≡ 0 = ap length empty in
-    let used : new.used ≡ mid.used = ap (λ t. t.used) f.1 in
-    let pending : new.pending ≡ [] = ap (λ t. t.pending) f.1 ∙ empty in
-    let none' : length new.pending ≡ 0 = ap length pending in (
-      (
-        r.seen,
-        record { no_feed = r.no_feed; used = omega (arith, r.used, used); pending = pending },
-        r.whole ∙ ap (prepend_known r.seen) (ap (λ p. prepend_known p left') empty ∙ prepend-nothing left' ∙ sym f.0),
-        r.began,
-        omega (arith, r.limited, used, none),
-      ),
-      omega (arith, r.counted, f.2, used, none, none'),
-    )
+pub gives-failed : (first mid new : Inflow) (buffer : LineBuffer) → IsReading first mid buffer → mid.input.pending ≡ [] → StaysAs mid new → GivesNext next.Failed buffer first new
+gives-failed first mid new buffer r empty stays =
+    let none : length mid.input.pending ≡ 0 = ap length empty in
+    let used : new.input.used ≡ mid.input.used = ap (λ t. t.used) stays.input in
+    let pending : new.input.pending ≡ [] = ap (λ t. t.pending) stays.input ∙ empty in
+    let none' : length new.input.pending ≡ 0 = ap length pending in
+    record {
+      gives = record {
+        seen = r.seen;
+        uses = record { no_feed = r.no_feed; used = omega (arith, r.used, used); pending = pending };
+        whole = r.whole ∙ ap (prepend_known r.seen) (unheld mid empty ∙ sym stays.left);
+        goes_on = r.began;
+      };
+      counted = omega (arith, r.counted, stays.taken, used, none, none');
+      limited = omega (arith, r.limited, used, none, none');
+    }

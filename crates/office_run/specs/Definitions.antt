@@ -1,6 +1,8 @@
 -- What definitions are, as bytes, and how they are taken from a source.
-use Rattle.std.specs.Prelude.{◌≡◌, ◌⊎◌, ℕ, ◌≤◌, List, length, Option, Some, Result, Ok, Err}
+use Rattle.std.specs.Prelude.{◌≡◌, ◌⊎◌, ℕ, ◌+◌, ◌≤◌, List, length, Option, Some, Result, Ok, Err}
 use Rattle.std.specs.Io.KnownBytes.{prepend_known, IsAtEnd}
+use Rattle.xs_outside.specs.Counts.{Rose}
+use Rattle.ordered_json.specs.declared.TheConstants.{MAX_TEXT}
 use Rattle.ordered_json.specs.declared.json.OrderedJson.{OrderedJson}
 use Rattle.ordered_json.specs.Meaning.{Means}
 use Rattle.office_core.specs.declared.flat.FlatMachine.{FlatMachine}
@@ -8,31 +10,42 @@ use Rattle.office_core.specs.FlatText.{office_in}
 use Rattle.office_run.specs.declared.definitions.DefinitionsFault.{DefinitionsFault}
 use Rattle.office_run.specs.declared.definitions.DefinitionsFault.TheVariants.{Refused, Failed, Memory}
 
--- a definitions text has at most this many bytes, and one more is taken to see that there are more
-abbrev pub text_limit : ℕ
-text_limit = 1048577
+-- so many bytes are taken of definitions at most: one more than a text may have shows that it is too long
+abbrev pub most_taken : ℕ
+most_taken = MAX_TEXT + 1
 
 -- the bytes are a JSON text that means these machines
 abbrev pub IsAccepted : List ℕ → List FlatMachine → Type 0
-IsAccepted text machines = (json : OrderedJson) × Means text json × (office_in json ≡ Some machines)
+IsAccepted text machines =
+    (json : OrderedJson) × Means text json × (office_in json ≡ Some machines)
 
+-- they are no such text
 abbrev pub IsRefused : List ℕ → Type 0
 IsRefused text = (machines : List FlatMachine) → IsAccepted text machines → ⊥
 
--- all bytes of the source were taken, or as many as the limit
-abbrev pub TakesText : List ℕ → Option (List ℕ) → Option (List ℕ) → Type 0
-TakesText text left left' = (left ≡ prepend_known text left') × (length text ≤ text_limit) × (IsAtEnd left' ⊎ (length text ≡ text_limit))
+-- all bytes of the source were taken, or as many as are taken at most
+pub record TakesText (text : List ℕ) (left left' : Option (List ℕ)) : Type 0 where
+  pub whole : left ≡ prepend_known text left'
+  pub limited : length text ≤ most_taken
+  pub ends : IsAtEnd left' ⊎ (length text ≡ most_taken)
 
--- the definitions are accepted or refused by their bytes, where the source tells them
+-- the definitions are accepted or refused by this text
+abbrev pub ReadsText : Result (List FlatMachine) DefinitionsFault → List ℕ → Type 0
+ReadsText (Ok machines) text = IsAccepted text machines
+ReadsText (Err Refused) text = IsRefused text
+ReadsText (Err Failed) text = Unit {0}
+ReadsText (Err Memory) text = Unit {0}
+
+-- the same of all bytes of a source that tells them
 abbrev pub ReadsDefinitions : Result (List FlatMachine) DefinitionsFault → Option (List ℕ) → Type 0
 ReadsDefinitions (Ok machines) left = (text : List ℕ) → left ≡ Some text → IsAccepted text machines
 ReadsDefinitions (Err Refused) left = (text : List ℕ) → left ≡ Some text → IsRefused text
 ReadsDefinitions (Err Failed) left = Unit {0}
 ReadsDefinitions (Err Memory) left = Unit {0}
 
--- the same of the text itself
-abbrev pub ReadsText : Result (List FlatMachine) DefinitionsFault → List ℕ → Type 0
-ReadsText (Ok machines) text = IsAccepted text machines
-ReadsText (Err Refused) text = IsRefused text
-ReadsText (Err Failed) text = Unit {0}
-ReadsText (Err Memory) text = Unit {0}
+-- the count of the source's faults rose where it failed, and stayed where it didn't
+abbrev pub CountsSource : {X : Type 0} → Result X DefinitionsFault → ℕ → ℕ → Type 0
+CountsSource (Ok x) old new = new ≡ old
+CountsSource (Err Refused) old new = new ≡ old
+CountsSource (Err Failed) old new = Rose old new
+CountsSource (Err Memory) old new = new ≡ old

@@ -1,8 +1,9 @@
 pub mod Lines
+pub mod LineBuffer
 pub mod Input
-pub mod Words
+pub mod Command
 pub mod Script
-pub mod Answers
+pub mod Replies
 pub mod Status
 pub mod Definitions
 pub mod Step

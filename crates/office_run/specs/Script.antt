@@ -1,6 +1,6 @@
 -- The lines of a script.
 use Rattle.std.specs.Prelude.{◌≡◌, ℕ, ◌^◌, ◌<◌, List, [], ◌∷◌, codes, decimal}
-use Rattle.office_core.specs.RequestLine.{spaced, IsRequest}
+use Rattle.office_core.specs.RequestLine.{spaced_text, IsRequest}
 use Rattle.office_run.specs.declared.script.Line.{Line}
 use Rattle.office_run.specs.declared.script.Line.TheVariants.{Request, Turn, Value, Malformed}
 
@@ -8,7 +8,7 @@ use Rattle.office_run.specs.declared.script.Line.TheVariants.{Request, Turn, Val
 abbrev pub IsForm : List ℕ → Line → Type 0
 IsForm bytes (Request request) = IsRequest bytes request
 IsForm bytes Turn = bytes ≡ codes "turn"
-IsForm bytes (Value actor) = (actor < 2 ^ 64) × (bytes ≡ spaced (codes "value" ∷ decimal actor ∷ []))
+IsForm bytes (Value actor) = (actor < 2 ^ 64) × (bytes ≡ spaced_text (codes "value" ∷ decimal actor ∷ []))
 IsForm bytes Malformed = ⊥
 
 -- what the bytes of a line are: of one of the forms, or of none

@@ -1,6 +1,8 @@
+//! The words of the command line.
+
 ghost use Rattle.std.specs.Prelude.{◌≡◌, is_some, map};
 ghost use Rattle.std.specs.Rc.{rc_str_bytes};
-ghost use Rattle.office_run.specs.Words.{command_of, is_word, IsCommand};
+ghost use Rattle.office_run.specs.Command.{command_of, is_word, IsCommand};
 
 use std::alloc::{AllocError, Global};
 use std::rc::RcStr;
@@ -18,7 +20,7 @@ pub enum Command {
 #[derive(Clone, Copy, Debug, PartialEq, Eq, Error)]
 pub enum WordsFault {
     /// The words are in no form.
-    #[error("usage: xoffice check, run, show, audit, load or serve")]
+    #[error("the words are in no form")]
     NoForm,
     #[error("out of memory")]
     Memory,
@@ -63,7 +65,7 @@ pub fn is_run(words: &[RcStr]) -> bool
     run.as_bytes() == b"run".as_slice() && is_word(defs.as_bytes()) && is_word(journal.as_bytes())
 }
 
-// Whether this may be a word of a form.
+/// Whether this may be a word of a form.
 fn is_word(word: &[u8]) -> bool
     ensures { result ≡ is_word word.now }
 {

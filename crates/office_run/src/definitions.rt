@@ -1,17 +1,18 @@
+//! The definitions: their bytes are taken from a source, and read as an office.
+
 ghost use Rattle.std.specs.Prelude.{◌≡◌, ◌+◌, ◌≤◌, ◌↔◌, Err, IfOk, IsTrue};
-ghost use Rattle.xs_outside.specs.Counts.{Rose};
-ghost use Rattle.office_run.specs.Definitions.{ReadsDefinitions, TakesText, ReadsText, text_limit};
+ghost use Rattle.office_run.specs.Definitions.{CountsSource, ReadsDefinitions, TakesText, ReadsText, most_taken};
 
 use crate::input::{new_piece, read_piece};
 use office_core::{FlatFault, FlatMachines, read_flat};
 use ordered_json::laws::meaning_is_unique;
-use ordered_json::{JsonFault, read};
+use ordered_json::{JsonFault, MAX_TEXT, read};
 use std::alloc::{AllocError, Global};
 use thiserror::Error;
 use xs_outside::{Got, Source};
 
-/// The longest definitions text, in bytes, and one byte more.
-const TEXT_LIMIT: usize = 1_048_577;
+/// So many bytes are taken at most: one more than a text may have shows that it is too long.
+const MOST_TAKEN: usize = MAX_TEXT + 1;
 
 /// Why there are no definitions.
 #[derive(Clone, Copy, Debug, PartialEq, Eq, Error)]
@@ -36,24 +37,23 @@ impl From<AllocError> for DefinitionsFault {
     }
 }
 
-/// Reads the definitions from a source. It takes at most 1,048,577 bytes.
+/// Reads the definitions from a source. It takes one byte at most more than a text may have.
 pub fn read_definitions<S: Source>(
     alloc: Global,
     source: &mut S,
 ) -> Result<FlatMachines, DefinitionsFault>
     ensures reads { ReadsDefinitions result (S.left source.old) }
-    ensures taken { S.taken source.new ≤ S.taken source.old + text_limit }
-    ensures later { S.read_faults source.old ≤ S.read_faults source.new }
-    ensures cause { result ≡ Err DefinitionsFault.Failed → Rose (S.read_faults source.old) (S.read_faults source.new) }
+    ensures taken { S.taken source.new ≤ S.taken source.old + most_taken }
+    ensures faults { CountsSource result (S.read_faults source.old) (S.read_faults source.new) }
 {
     let text = take_text(alloc, source)?;
     machines_of(alloc, text.as_slice())
 }
 
-// The machines that a text means.
+/// The machines that a text means.
 fn machines_of(alloc: Global, text: &[u8]) -> Result<FlatMachines, DefinitionsFault>
     ensures reads { ReadsText result text.now }
-    ensures cause { result ≡ Err DefinitionsFault.Failed → ⊥ }
+    ensures not_failed { result ≡ Err DefinitionsFault.Failed → ⊥ }
 {
     meaning_is_unique();
     let json = match read(alloc, text) {
@@ -68,25 +68,24 @@ fn machines_of(alloc: Global, text: &[u8]) -> Result<FlatMachines, DefinitionsFa
     }
 }
 
-// Whether a fault is want of memory, and none of the text's own.
+/// Whether a fault is want of memory, and none of the text's own.
 fn is_memory(fault: &JsonFault) -> bool
     ensures { IsTrue result ↔ (fault.now ≡ JsonFault.Memory) }
 {
     matches!(fault, JsonFault::Memory)
 }
 
-// Takes the bytes of a source, to its end or the limit.
+/// Takes the bytes of a source, to its end or the limit.
 fn take_text<S: Source>(alloc: Global, source: &mut S) -> Result<Vec<u8>, DefinitionsFault>
     ensures text { IfOk result (λ text. TakesText text.items (S.left source.old) (S.left source.new)) }
-    ensures taken { S.taken source.new ≤ S.taken source.old + text_limit }
-    ensures later { S.read_faults source.old ≤ S.read_faults source.new }
-    ensures refused { result ≡ Err DefinitionsFault.Refused → ⊥ }
-    ensures cause { result ≡ Err DefinitionsFault.Failed → Rose (S.read_faults source.old) (S.read_faults source.new) }
+    ensures taken { S.taken source.new ≤ S.taken source.old + most_taken }
+    ensures not_refused { result ≡ Err DefinitionsFault.Refused → ⊥ }
+    ensures faults { CountsSource result (S.read_faults source.old) (S.read_faults source.new) }
 {
     let mut text = Vec::new(alloc);
     let mut piece = new_piece(alloc)?;
-    'pieces: while text.len() < TEXT_LIMIT {
-        let room = (TEXT_LIMIT - text.len()).min(piece.len());
+    'pieces: while text.len() < MOST_TAKEN {
+        let room = (MOST_TAKEN - text.len()).min(piece.len());
         match read_piece(source, &mut piece, room) {
             Got::Bytes(count) => text.extend_from_slice(&piece[..count])?,
             Got::End => return Ok(text),

@@ -1,19 +1,23 @@
-ghost use Rattle.std.specs.Prelude.{◌≡◌, ◌+◌, ◌<◌, ◌≤◌, ◌^◌, [], length, take, false, position, vec_len, OnErr, IfOk};
-ghost use Rattle.office_run.specs.Input.{Fills, Moves, Gives, limit};
+//! The input of a run, cut into lines as it comes.
+
+ghost use Rattle.std.specs.Prelude.{◌≡◌, ◌≢◌, ◌+◌, ◌<◌, ◌≤◌, ◌^◌, [], length, take, false, position, vec_len, OnErr, IfOk, ℕ, List};
+ghost use Rattle.office_run.specs.Input.{Fills, MovesToLine, GivesNext, taken_count};
+ghost use Rattle.office_run.specs.LineBuffer.{Extends};
 ghost use Rattle.office_run.specs.Lines.{is_feed};
 ghost use Rattle.xs_outside.specs.Counts.{Rose};
-ghost use Rattle.xs_outside.specs.Streams.{ReadGives, bytes_given};
+ghost use Rattle.xs_outside.specs.Streams.{CountsReadFailure, ReadGives, bytes_given};
 
 use crate::line_buffer::LineBuffer;
+use office_core::MAX_LINE;
 use std::alloc::{AllocError, Global};
 use std::marker::Model;
 use xs_outside::{Both, Got, Source};
 
 /// A run takes at most this many bytes of its input, and one more to see that there are more.
-const INPUT_LIMIT: u64 = 1 << 30;
+pub const MAX_INPUT: u64 = 1 << 30;
 
-/// How many bytes are asked for at once.
-const PIECE: usize = 65_536;
+/// How many bytes are asked for at once: as many as the longest line has.
+const PIECE: usize = MAX_LINE;
 
 /// What comes next in the input.
 #[derive(Clone, Copy, Debug, PartialEq, Eq)]
@@ -30,7 +34,7 @@ pub enum Next {
     Memory,
 }
 
-/// What came of asking the source.
+//// What came of asking the source.
 #[derive(Clone, Copy, Debug, PartialEq, Eq)]
 enum Fill {
     More,
@@ -80,11 +84,14 @@ impl Input {
 
     /// Reads the next line into the buffer. Each byte is looked at once.
     pub fn next_line<S: Both>(&mut self, source: &mut S, line: &mut LineBuffer) -> Next
-        requires { self.old.used + length self.old.pending ≤ limit }
-        ensures gives { Gives result self.old self.new line.new (S.left source.old) (S.left source.new) (S.taken source.old) (S.taken source.new) }
-        ensures untouched { (S.written source.new ≡ S.written source.old) × (S.write_faults source.new ≡ S.write_faults source.old) }
-        ensures later { S.read_faults source.old ≤ S.read_faults source.new }
-        ensures cause { result ≡ Next.Failed → Rose (S.read_faults source.old) (S.read_faults source.new) }
+        requires { taken_count self.old ≤ MAX_INPUT }
+        ensures gives { GivesNext result line.new
+            (record { input = self.old; left = S.left source.old; taken = S.taken source.old })
+            (record { input = self.new; left = S.left source.new; taken = S.taken source.new }) }
+        ensures written { S.written source.new ≡ S.written source.old }
+        ensures write_faults { S.write_faults source.new ≡ S.write_faults source.old }
+        ensures failed { result ≡ Next.Failed → Rose (S.read_faults source.old) (S.read_faults source.new) }
+        ensures not_failed { result ≢ Next.Failed → S.read_faults source.new ≡ S.read_faults source.old }
     {
         line.clear();
         if self.ended {
@@ -106,10 +113,11 @@ impl Input {
         }
     }
 
-    // Moves the bytes up to the next line feed to the line, and tells whether there was one, which it drops.
+    /// Moves the bytes up to the next line feed to the line, and tells whether there was one, which it drops.
     fn move_to(&mut self, line: &mut LineBuffer) -> Result<bool, AllocError>
         requires { line.old.len + length self.old.pending < 2 ^ 64 }
-        ensures ok { IfOk result (λ fed. Moves fed self.old self.new line.old line.new) }
+        ensures ok { IfOk result (λ fed. (more : List ℕ)
+            × MovesToLine fed self.old self.new more × Extends line.old line.new more) }
         ensures err { OnErr result (self.new ≡ self.old) }
     {
         let pending = &self.piece[self.start..self.end];
@@ -127,17 +135,20 @@ impl Input {
         }
     }
 
-    // Takes the next piece, where nothing is pending.
+    /// Takes the next piece, where nothing is pending.
     fn fill<S: Both>(&mut self, source: &mut S) -> Fill
         requires { self.old.pending ≡ [] }
-        ensures fills { Fills result self.old self.new (S.left source.old) (S.left source.new) (S.taken source.old) (S.taken source.new) }
-        ensures untouched { (S.written source.new ≡ S.written source.old) × (S.write_faults source.new ≡ S.write_faults source.old) }
-        ensures later { S.read_faults source.old ≤ S.read_faults source.new }
-        ensures cause { result ≡ Fill.Failed → Rose (S.read_faults source.old) (S.read_faults source.new) }
+        ensures fills { Fills result
+            (record { input = self.old; left = S.left source.old; taken = S.taken source.old })
+            (record { input = self.new; left = S.left source.new; taken = S.taken source.new }) }
+        ensures written { S.written source.new ≡ S.written source.old }
+        ensures write_faults { S.write_faults source.new ≡ S.write_faults source.old }
+        ensures failed { result ≡ Fill.Failed → Rose (S.read_faults source.old) (S.read_faults source.new) }
+        ensures not_failed { result ≢ Fill.Failed → S.read_faults source.new ≡ S.read_faults source.old }
     {
         self.start = 0;
         self.end = 0;
-        let room = (INPUT_LIMIT - self.taken).min(self.piece.len() as u64) as usize;
+        let room = (MAX_INPUT - self.taken).min(self.piece.len() as u64) as usize;
         if room == 0 {
             return self.look_past(source);
         }
@@ -155,14 +166,17 @@ impl Input {
         }
     }
 
-    // Sees whether there is a byte past the last one that a run takes.
+    /// Sees whether there is a byte past the last one that a run takes.
     fn look_past<S: Both>(&mut self, source: &mut S) -> Fill
         requires empty { self.old.pending ≡ [] }
-        requires full { self.old.used ≡ limit }
-        ensures fills { Fills result self.old self.new (S.left source.old) (S.left source.new) (S.taken source.old) (S.taken source.new) }
-        ensures untouched { (S.written source.new ≡ S.written source.old) × (S.write_faults source.new ≡ S.write_faults source.old) }
-        ensures later { S.read_faults source.old ≤ S.read_faults source.new }
-        ensures cause { result ≡ Fill.Failed → Rose (S.read_faults source.old) (S.read_faults source.new) }
+        requires full { self.old.used ≡ MAX_INPUT }
+        ensures fills { Fills result
+            (record { input = self.old; left = S.left source.old; taken = S.taken source.old })
+            (record { input = self.new; left = S.left source.new; taken = S.taken source.new }) }
+        ensures written { S.written source.new ≡ S.written source.old }
+        ensures write_faults { S.write_faults source.new ≡ S.write_faults source.old }
+        ensures failed { result ≡ Fill.Failed → Rose (S.read_faults source.old) (S.read_faults source.new) }
+        ensures not_failed { result ≢ Fill.Failed → S.read_faults source.new ≡ S.read_faults source.old }
     {
         match source.read(&mut [0]) {
             Got::Bytes(_) => Fill::TooMuch,
@@ -188,14 +202,13 @@ pub fn read_piece<S: Source>(source: &mut S, piece: &mut [u8], room: usize) -> G
     requires within { room ≤ length piece.old }
     ensures gives { ReadGives result (take room piece.new) (S.left source.old) (S.left source.new) }
     ensures taken { S.taken source.new ≡ S.taken source.old + bytes_given result }
-    ensures later { S.read_faults source.old ≤ S.read_faults source.new }
-    ensures cause { result ≡ Got.Failed → Rose (S.read_faults source.old) (S.read_faults source.new) }
-    ensures relation { S.reads source.old source.new }
+    ensures faults { CountsReadFailure result (S.read_faults source.old) (S.read_faults source.new) }
+    ensures relation { S.reads result source.old source.new }
 {
     source.read(&mut piece[..room])
 }
 
-// Where the first line feed stands.
+/// Where the first line feed stands.
 fn place_of_feed(bytes: &[u8]) -> Option<usize>
     ensures { result ≡ position is_feed bytes.now }
 {

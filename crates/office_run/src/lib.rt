@@ -13,4 +13,9 @@ mod status;
 mod tests;
 
 pub use command::{Command, WordsFault, words};
-pub use program::run;
+pub use input::MAX_INPUT;
+pub use program::{REFUSAL, TOO_LONG, USAGE, run};
+pub use status::{
+    EXIT_DONE, EXIT_INPUT_LONG, EXIT_MEMORY, EXIT_READ_FAULT, EXIT_REFUSED, EXIT_USAGE,
+    EXIT_WRITE_FAULT,
+};

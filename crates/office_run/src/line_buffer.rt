@@ -1,11 +1,12 @@
-ghost use Rattle.std.specs.Prelude.{◌≡◌, ◌+◌, ◌-◌, ◌++◌, [], ◌^◌, ◌<◌, length, take, OnOk, OnErr, IsTrue, ◌↔◌};
+//! The line that is being read.
 
+ghost use Rattle.std.specs.Prelude.{◌≡◌, ◌+◌, [], ◌^◌, ◌<◌, length, OnOk, OnErr, IsTrue, ◌↔◌};
+
+use office_core::MAX_LINE;
 use std::alloc::{AllocError, Global};
 
-/// A line has at most this many bytes, its line feed left out.
-pub const MAX_LINE: usize = 65_536;
-
-/// The line that is being read: its first 65,536 bytes, and how many it has. It keeps no more, however long the line is.
+/// The line that is being read: as many of its first bytes as a line may have, and how many it has. It keeps no more, however
+/// long the line is.
 #[derive(Debug, Drop)]
 pub struct LineBuffer {
     pub bytes: Vec<u8>,
@@ -13,10 +14,12 @@ pub struct LineBuffer {
 }
 
 impl LineBuffer {
+    ghost use Rattle.office_core.specs.declared.request_line.TheConstants.{MAX_LINE};
+    ghost use Rattle.office_run.specs.LineBuffer.{Extends, Holds};
+
     /// An empty line. It takes no memory.
     pub fn new(alloc: Global) -> LineBuffer
-        ensures bytes { result.bytes.items ≡ [] }
-        ensures len { result.len ≡ 0 }
+        ensures { Holds result [] }
     {
         LineBuffer {
             bytes: Vec::new(alloc),
@@ -26,8 +29,7 @@ impl LineBuffer {
 
     /// Begins the next line.
     pub fn clear(&mut self)
-        ensures bytes { self.new.bytes.items ≡ [] }
-        ensures len { self.new.len ≡ 0 }
+        ensures { Holds self.new [] }
     {
         self.bytes.clear();
         self.len = 0;
@@ -35,7 +37,7 @@ impl LineBuffer {
 
     /// Whether the line has more bytes than a line may have.
     pub fn is_long(&self) -> bool
-        ensures { IsTrue result ↔ (65536 < self.now.len) }
+        ensures { IsTrue result ↔ (MAX_LINE < self.now.len) }
     {
         self.len > MAX_LINE as u64
     }
@@ -43,9 +45,8 @@ impl LineBuffer {
     /// Adds the next bytes of the line. An `Err` changes nothing.
     pub fn push(&mut self, more: &[u8]) -> Result<(), AllocError>
         requires { self.old.len + length more.now < 2 ^ 64 }
-        ensures len { OnOk result (self.new.len ≡ self.old.len + length more.now) }
-        ensures bytes { OnOk result (self.new.bytes.items ≡ self.old.bytes.items ++ take (65536 - length self.old.bytes.items) more.now) }
-        ensures err { OnErr result ((self.new.len ≡ self.old.len) × (self.new.bytes.items ≡ self.old.bytes.items)) }
+        ensures ok { OnOk result (Extends self.old self.new more.now) }
+        ensures err { OnErr result (Extends self.old self.new []) }
     {
         let room = MAX_LINE.saturating_sub(self.bytes.len());
         self.bytes.extend_from_slice(&more[..room.min(more.len())])?;

@@ -1,24 +1,29 @@
-ghost use Rattle.std.specs.Prelude.{◌≡◌, ◌≢◌, ◌⊎◌, ◌+◌, ◌++◌, ◌≤◌, ℕ, List, length, None, Some, IfOk, IsSome, map, string_bytes};
+//! The program: the words are looked at first, then the definitions, then the lines of the input as they come.
+
+ghost use Rattle.std.specs.Prelude.{◌≡◌, ◌≢◌, ◌⊎◌, ◌+◌, ◌-◌, ◌≤◌, ℕ, List, None, Some, IfOk, IsSome, map, string_bytes};
 ghost use Rattle.std.specs.Rc.{rc_str_bytes};
 ghost use Rattle.std.specs.Io.KnownBytes.{append_known};
 ghost use Rattle.xs_outside.specs.Counts.{Rose};
 ghost use Rattle.office_core.specs.Office.{empty_office};
-ghost use Rattle.office_run.specs.Input.{limit, Holds};
-ghost use Rattle.office_run.specs.Script.{IsLine};
-ghost use Rattle.office_run.specs.Answers.{answer, after};
-ghost use Rattle.office_run.specs.Definitions.{text_limit};
-ghost use Rattle.office_run.specs.Words.{command_of};
-ghost use Rattle.office_run.specs.Step.{Steps};
-ghost use Rattle.office_run.specs.Run.{Serves, Converses, WritesPart};
-ghost use Rattle.office_run.specs.Status.{code_of};
-ghost use Rattle.office_run.specs.declared.status.Status.{Status};
+ghost use Rattle.office_run.specs.declared.input.TheConstants.{MAX_INPUT};
 ghost use Rattle.office_run.specs.declared.script.Line.{Line};
+ghost use Rattle.office_run.specs.declared.status.Status.{Status};
+ghost use Rattle.office_run.specs.declared.status.TheConstants.{EXIT_USAGE, EXIT_WRITE_FAULT};
+ghost use Rattle.office_run.specs.Input.{taken_count};
+ghost use Rattle.office_run.specs.LineBuffer.{Holds};
+ghost use Rattle.office_run.specs.Script.{IsLine};
+ghost use Rattle.office_run.specs.Replies.{answer_line, office_after};
+ghost use Rattle.office_run.specs.Definitions.{most_taken};
+ghost use Rattle.office_run.specs.Command.{command_of};
+ghost use Rattle.office_run.specs.Step.{Steps, IsBounded};
+ghost use Rattle.office_run.specs.Run.{Serves, Converses, WritesPart};
+ghost use Rattle.office_run.specs.Status.{code_of, CountsFaults, CountsStep, CountsRun};
 
 use crate::command::is_run;
 use crate::definitions::{DefinitionsFault, read_definitions};
 use crate::input::{Input, Next};
 use crate::line_buffer::LineBuffer;
-use crate::replies::answer;
+use crate::replies::answer_line;
 use crate::script::{Line, read_line};
 use crate::status::Status;
 use office_core::Core;
@@ -27,13 +32,13 @@ use std::rc::RcStr;
 use xs_outside::{Both, Ended, Source, Station};
 
 /// What is written where the words are in no form.
-const USAGE: &str = "usage: xoffice check, run, show, audit, load or serve\n";
+pub const USAGE: &str = "usage: xoffice check, run, show, audit, load or serve\n";
 
 /// What is written where the definitions are refused.
-const REFUSAL: &str = "definitions\n";
+pub const REFUSAL: &str = "definitions\n";
 
 /// What is written where the input is too long.
-const LONG: &str = "input long\n";
+pub const TOO_LONG: &str = "input long\n";
 
 /// The program: it does what the words ask, with the definitions and the station, and answers the exit status with the
 /// station. Each line of the input is answered, and its answer written, before more input is asked for than it needs.
@@ -45,20 +50,39 @@ pub fn run<S: Source, W: Station>(
     station: W,
 ) -> Ended<W>
     // What is printed, and when each status comes, where the sources and the sink tell their bytes.
-    ensures ends { (status : Status) × (result.status ≡ code_of status)
-        × Serves status (map rc_str_bytes words.now) (S.left defs.old) (W.left station) (W.taken station) (W.taken result.station) (W.written station) (W.written result.station) }
+    ensures ends { (status : Status) × (result.status ≡ code_of status) × Serves status (record {
+      words = map rc_str_bytes words.now;
+      definitions = S.left defs.old;
+      exchange = record {
+        input = W.left station;
+        taken = W.taken result.station - W.taken station;
+        before = W.written station;
+        after = W.written result.station;
+      };
+    }) }
 
     // The words alone decide on the usage line.
-    ensures no_form { command_of (map rc_str_bytes words.now) ≡ None → (result.status ≡ 2) ⊎ (result.status ≡ 6) }
-    ensures form { IsSome (command_of (map rc_str_bytes words.now)) → result.status ≢ 2 }
+    ensures no_form { command_of (map rc_str_bytes words.now) ≡ None
+        → (result.status ≡ EXIT_USAGE) ⊎ (result.status ≡ EXIT_WRITE_FAULT) }
+    ensures form { IsSome (command_of (map rc_str_bytes words.now)) → result.status ≢ EXIT_USAGE }
 
-    // A fault is answered only where a count rose.
-    ensures read_fault { result.status ≡ 5 → Rose (S.read_faults defs.old) (S.read_faults defs.new) ⊎ Rose (W.read_faults station) (W.read_faults result.station) }
-    ensures write_fault { result.status ≡ 6 → Rose (W.write_faults station) (W.write_faults result.station) }
+    // Only the count of a fault that the status tells of rose.
+    ensures faults { (status : Status) × (result.status ≡ code_of status) × CountsRun status
+        (record {
+          definitions = S.read_faults defs.old;
+          station = record { reads = W.read_faults station; writes = W.write_faults station };
+        })
+        (record {
+          definitions = S.read_faults defs.new;
+          station = record {
+            reads = W.read_faults result.station;
+            writes = W.write_faults result.station;
+          };
+        }) }
 
     // It takes no more than it may.
-    ensures definitions_taken { S.taken defs.new ≤ S.taken defs.old + text_limit }
-    ensures input_taken { W.taken result.station ≤ W.taken station + (limit + 1) }
+    ensures definitions_taken { S.taken defs.new ≤ S.taken defs.old + most_taken }
+    ensures input_taken { W.taken result.station ≤ W.taken station + (MAX_INPUT + 1) }
 {
     let mut station = station;
     let status = serve(alloc, words, defs, &mut station);
@@ -68,19 +92,37 @@ pub fn run<S: Source, W: Station>(
     }
 }
 
+/// Does what the words ask, and tells how the run ends.
 fn serve<S: Source, W: Both>(
     alloc: Global,
     words: &[RcStr],
     defs: &mut S,
     station: &mut W,
 ) -> Status
-    ensures served { Serves result (map rc_str_bytes words.now) (S.left defs.old) (W.left station.old) (W.taken station.old) (W.taken station.new) (W.written station.old) (W.written station.new) }
-    ensures no_form { command_of (map rc_str_bytes words.now) ≡ None → (result ≡ Status.Usage) ⊎ (result ≡ Status.WriteFault) }
+    ensures served { Serves result (record {
+      words = map rc_str_bytes words.now;
+      definitions = S.left defs.old;
+      exchange = record {
+        input = W.left station.old;
+        taken = W.taken station.new - W.taken station.old;
+        before = W.written station.old;
+        after = W.written station.new;
+      };
+    }) }
+    ensures no_form { command_of (map rc_str_bytes words.now) ≡ None
+        → (result ≡ Status.Usage) ⊎ (result ≡ Status.WriteFault) }
     ensures form { IsSome (command_of (map rc_str_bytes words.now)) → result ≢ Status.Usage }
-    ensures read_fault { result ≡ Status.ReadFault → Rose (S.read_faults defs.old) (S.read_faults defs.new) ⊎ Rose (W.read_faults station.old) (W.read_faults station.new) }
-    ensures write_fault { result ≡ Status.WriteFault → Rose (W.write_faults station.old) (W.write_faults station.new) }
-    ensures definitions_taken { S.taken defs.new ≤ S.taken defs.old + text_limit }
-    ensures input_taken { W.taken station.new ≤ W.taken station.old + (limit + 1) }
+    ensures faults { CountsRun result
+        (record {
+          definitions = S.read_faults defs.old;
+          station = record { reads = W.read_faults station.old; writes = W.write_faults station.old };
+        })
+        (record {
+          definitions = S.read_faults defs.new;
+          station = record { reads = W.read_faults station.new; writes = W.write_faults station.new };
+        }) }
+    ensures definitions_taken { S.taken defs.new ≤ S.taken defs.old + most_taken }
+    ensures input_taken { W.taken station.new ≤ W.taken station.old + (MAX_INPUT + 1) }
 {
     if !is_run(words) {
         return print(station, USAGE, Status::Usage);
@@ -96,15 +138,17 @@ fn serve<S: Source, W: Both>(
     }
 }
 
-// Writes a text, and ends so.
+/// Writes a text, and ends so.
 fn print<W: Both>(station: &mut W, text: &str, status: Status) -> Status
-    ensures written { (result ≡ status × (W.written station.new ≡ append_known (W.written station.old) text.now))
-        ⊎ (result ≡ Status.WriteFault × WritesPart (W.written station.old) (W.written station.new) text.now) }
-    ensures write_fault { (result ≡ Status.WriteFault × Rose (W.write_faults station.old) (W.write_faults station.new)) ⊎ (result ≡ status) }
+    ensures written { ((result ≡ status)
+        × (W.written station.new ≡ append_known (W.written station.old) text.now)
+        × (W.write_faults station.new ≡ W.write_faults station.old))
+        ⊎ ((result ≡ Status.WriteFault)
+        × WritesPart (W.written station.old) (W.written station.new) text.now
+        × Rose (W.write_faults station.old) (W.write_faults station.new)) }
     ensures left { W.left station.new ≡ W.left station.old }
     ensures taken { W.taken station.new ≡ W.taken station.old }
-    ensures later { W.write_faults station.old ≤ W.write_faults station.new }
-    ensures faults { W.read_faults station.new ≡ W.read_faults station.old }
+    ensures read_faults { W.read_faults station.new ≡ W.read_faults station.old }
 {
     match station.write(text.as_bytes()) {
         Ok(()) => status,
@@ -112,14 +156,20 @@ fn print<W: Both>(station: &mut W, text: &str, status: Status) -> Status
     }
 }
 
-// Answers the lines of the input, one after the other.
+/// Answers the lines of the input, one after the other.
 fn converse<W: Both>(alloc: Global, core: &mut Core, station: &mut W) -> Status
     requires { core.old.office ≡ empty_office }
-    ensures converses { Converses result core.old.machines (W.left station.old) (W.taken station.old) (W.taken station.new) (W.written station.old) (W.written station.new) }
+    ensures converses { Converses result core.old.machines (record {
+      input = W.left station.old;
+      taken = W.taken station.new - W.taken station.old;
+      before = W.written station.old;
+      after = W.written station.new;
+    }) }
     ensures form { result ≢ Status.Usage }
-    ensures read_fault { result ≡ Status.ReadFault → Rose (W.read_faults station.old) (W.read_faults station.new) }
-    ensures write_fault { result ≡ Status.WriteFault → Rose (W.write_faults station.old) (W.write_faults station.new) }
-    ensures taken { W.taken station.new ≤ W.taken station.old + (limit + 1) }
+    ensures faults { CountsFaults result
+        (record { reads = W.read_faults station.old; writes = W.write_faults station.old })
+        (record { reads = W.read_faults station.new; writes = W.write_faults station.new }) }
+    ensures taken { W.taken station.new ≤ W.taken station.old + (MAX_INPUT + 1) }
 {
     let Ok(mut input) = Input::new(alloc) else {
         return Status::Memory;
@@ -132,7 +182,7 @@ fn converse<W: Both>(alloc: Global, core: &mut Core, station: &mut W) -> Status
     }
 }
 
-// Takes the next line and answers it, or tells how the run ends.
+/// Takes the next line and answers it, or tells how the run ends.
 fn take_line<W: Both>(
     alloc: Global,
     core: &mut Core,
@@ -140,21 +190,30 @@ fn take_line<W: Both>(
     buffer: &mut LineBuffer,
     station: &mut W,
 ) -> Option<Status>
-    requires { input.old.used + length input.old.pending ≤ limit }
+    requires { taken_count input.old ≤ MAX_INPUT }
     ensures machines { core.new.machines ≡ core.old.machines }
     ensures steps { Steps core.old.machines result
-        (record { office = core.old.office; input = input.old; left = W.left station.old; taken = W.taken station.old; written = W.written station.old })
-        (record { office = core.new.office; input = input.new; left = W.left station.new; taken = W.taken station.new; written = W.written station.new }) }
-    ensures bounded { W.taken station.new + (input.old.used + length input.old.pending) ≤ W.taken station.old + (limit + 1) }
-    ensures read_later { W.read_faults station.old ≤ W.read_faults station.new }
-    ensures write_later { W.write_faults station.old ≤ W.write_faults station.new }
-    ensures read_fault { result ≡ Some Status.ReadFault → Rose (W.read_faults station.old) (W.read_faults station.new) }
-    ensures write_fault { result ≡ Some Status.WriteFault → Rose (W.write_faults station.old) (W.write_faults station.new) }
+        (record {
+          office = core.old.office;
+          inflow = record { input = input.old; left = W.left station.old; taken = W.taken station.old };
+          written = W.written station.old;
+        })
+        (record {
+          office = core.new.office;
+          inflow = record { input = input.new; left = W.left station.new; taken = W.taken station.new };
+          written = W.written station.new;
+        }) }
+    ensures bounded { IsBounded
+        (record { input = input.old; left = W.left station.old; taken = W.taken station.old })
+        (record { input = input.new; left = W.left station.new; taken = W.taken station.new }) }
+    ensures faults { CountsStep result
+        (record { reads = W.read_faults station.old; writes = W.write_faults station.old })
+        (record { reads = W.read_faults station.new; writes = W.write_faults station.new }) }
 {
     match input.next_line(station, buffer) {
         Next::Line => {}
         Next::End => return Some(Status::Done),
-        Next::TooMuch => return Some(print(station, LONG, Status::InputLong)),
+        Next::TooMuch => return Some(print(station, TOO_LONG, Status::InputLong)),
         Next::Failed => return Some(Status::ReadFault),
         Next::Memory => return Some(Status::Memory),
     }
@@ -167,16 +226,19 @@ fn take_line<W: Both>(
     }
 }
 
-// Answers the line in the buffer. One that is too long is no line of a form.
+/// Answers the line in the buffer. One that is too long is no line of a form.
 fn answer_buffer(alloc: Global, core: &mut Core, buffer: &LineBuffer) -> Result<String, AllocError>
     ensures machines { core.new.machines ≡ core.old.machines }
     ensures answers { IfOk result (λ text. (bytes : List ℕ) → Holds buffer.now bytes →
-        (line : Line) × IsLine bytes line × (string_bytes text ≡ answer core.old.machines core.old.office line) × (core.new.office ≡ after core.old.machines core.old.office line)) }
+        (line : Line) × IsLine bytes line
+        × (string_bytes text ≡ answer_line core.old.machines core.old.office line)
+        × (core.new.office ≡ office_after core.old.machines core.old.office line)) }
 {
     let line = read_buffer(alloc, buffer)?;
-    answer(alloc, core, &line)
+    answer_line(alloc, core, &line)
 }
 
+/// What the line in the buffer says.
 fn read_buffer(alloc: Global, buffer: &LineBuffer) -> Result<Line, AllocError>
     ensures { IfOk result (λ line. (bytes : List ℕ) → Holds buffer.now bytes → IsLine bytes line) }
 {

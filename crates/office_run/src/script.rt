@@ -1,5 +1,7 @@
+//! The lines of a script.
+
 ghost use Rattle.std.specs.Prelude.{IfOk};
-ghost use Rattle.office_core.specs.RequestLine.{Reads};
+ghost use Rattle.office_core.specs.RequestLine.{ReadsLine};
 ghost use Rattle.office_run.specs.Script.{IsLine, IsValueLine};
 
 use office_core::{LineFault, Request, read_number, read_request};
@@ -37,9 +39,9 @@ pub fn read_line(alloc: Global, bytes: &[u8]) -> Result<Line, AllocError>
     }
 }
 
-// The actor of a line `value ACTOR`.
+/// The actor of a line `value ACTOR`.
 fn read_value_line(bytes: &[u8]) -> Result<u64, LineFault>
-    ensures { Reads (IsValueLine bytes.now) result }
+    ensures { ReadsLine (IsValueLine bytes.now) result }
 {
     match bytes {
         [b'v', b'a', b'l', b'u', b'e', b' ', actor @ ..] => read_number(actor),

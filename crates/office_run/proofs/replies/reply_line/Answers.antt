@@ -1,6 +1,6 @@
 use Rattle.std.proofs.Common.{◌≡◌, ◌∙◌, append_assoc}
 use Rattle.std.specs.Prelude.{string_bytes}
-use Rattle.office_run.specs.Answers.{reply_line}
+use Rattle.office_run.specs.Replies.{reply_line}
 use Rattle.office_run.proofs.ReplyLemmas.{if_ok}
 use Rattle.office_run.proofs.replies.reply_line.Goals as goal
 

@@ -1,5 +1,6 @@
 use Rattle.std.proofs.Common.{◌≡◌, ◌+◌, ◌-◌, ◌≤◌, ◌∷◌, ◌++◌, List, [], ℕ, Bool, length, take, drop, refl, sym, ap, ◌∙◌, arith}
 use Rattle.std.proofs.lemmas.List.{length-take-le}
+use Rattle.xs_data.specs.Ascii.{line_feed}
 use Rattle.office_run.specs.Input.{Taken}
 use Rattle.office_run.proofs.InputLemmas.{window-length, window-drop, feed-some, feed-none}
 use Rattle.office_run.proofs.input.Input.move_to.Goals as goal
@@ -13,15 +14,16 @@ returns-in_ok-push-in-Some-clause-ok c =
     let wide = window-length i.start i.end i.piece.items c.self.invariant.ordered (omega (arith, i.piece.ok.0, c.self.invariant.within)) in
     let len = length-take-le c.in-Some.place pending (omega (arith, f.2)) in
     let behind = window-drop i.start i.end (c.in-Some.place + 1) i.piece.items (omega (arith, f.2, wide)) in
-    let pushed = rw c.deref.ensures.value at c.in_ok-push-in-Some.ensures.len in
-    let bytes = rw c.deref.ensures.value at c.in_ok-push-in-Some.ensures.bytes in
+    let pushed = rw c.deref.ensures.value at c.in_ok-push-in-Some.ensures.ok in
     rw (← c.self.view_is) (
       take c.in-Some.place pending,
-      f.0 ∙ ap (λ rest. take c.in-Some.place pending ++ 10 ∷ rest) behind,
-      f.1,
-      record { len = pushed; bytes = bytes },
-      omega (arith, len, f.2, wide, c.self.invariant.counted, c.self.invariant.ordered),
-      refl,
+      (
+        f.0 ∙ ap (λ rest. take c.in-Some.place pending ++ line_feed ∷ rest) behind,
+        f.1,
+        omega (arith, len, f.2, wide, c.self.invariant.counted, c.self.invariant.ordered),
+        refl,
+      ),
+      pushed,
     )
 
 -- where all that waits was used up
@@ -42,10 +44,13 @@ returns-in_ok-push-in-None-clause-ok c =
     let pending : List ℕ = take (i.end - i.start) (drop i.start i.piece.items) in
     let found = rw c.deref.ensures.value at c.in-None.ensures in
     let wide = window-length i.start i.end i.piece.items c.self.invariant.ordered (omega (arith, i.piece.ok.0, c.self.invariant.within)) in
-    let pushed = rw c.deref.ensures.value at c.in_ok-push-in-None.ensures.len in
-    let bytes = rw c.deref.ensures.value at c.in_ok-push-in-None.ensures.bytes in
+    let pushed = rw c.deref.ensures.value at c.in_ok-push-in-None.ensures.ok in
     rw (← c.self.view_is) (
-      feed-none pending (sym found),
-      record { len = pushed; bytes = bytes },
-      emptied i.start i.end i.taken i.piece.items i.ended c.self.invariant.ordered c.self.invariant.counted wide,
+      pending,
+      (
+        refl,
+        feed-none pending (sym found),
+        emptied i.start i.end i.taken i.piece.items i.ended c.self.invariant.ordered c.self.invariant.counted wide,
+      ),
+      pushed,
     )
