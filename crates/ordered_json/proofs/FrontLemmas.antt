@@ -5,11 +5,11 @@ use Rattle.std.proofs.lemmas.List.{map-append}
 use Rattle.ordered_json.specs.declared.json.Member.{Member}
 use Rattle.ordered_json.specs.declared.json.OrderedJson.{OrderedJson}
 use Rattle.ordered_json.specs.Words.{key_of, member_of}
-use Rattle.ordered_json.specs.Grammar.{Char, print_string, Tree, Elements, element, Members, member, print, print_elements, print_members, print_mark, print_colon, Gap, Key, IsGap, IsKey, IsTree, AreElements, AreMembers}
+use Rattle.ordered_json.specs.Grammar.{Char, print_string, Tree, Elements, element, Members, member, print, print_elements, print_members, print_separator, print_colon, Gap, Key, IsGap, IsKey, IsTree, AreElements, AreMembers}
 use Rattle.ordered_json.specs.Meaning.{string_content, value_at, items_at, members_at, has_key, IsTaken, ElementsTaken, MembersTaken}
 use Rattle.ordered_json.proofs.KeyLemmas.{key_of-member_of}
 
--- white space before and after a mark
+-- white space before and after a comma or a colon
 abbrev pub gap_of : List ℕ → List ℕ → Gap
 gap_of before after = record { before = before; after = after }
 
@@ -28,7 +28,7 @@ comma_after (i ∷ is) = 44 ∷ []
 
 abbrev pub print_items : List Item → List ℕ
 print_items [] = []
-print_items (i ∷ is) = print_items is ++ (print_mark i.gap (comma_after is) ++ print i.tree)
+print_items (i ∷ is) = print_items is ++ (print_separator i.gap (comma_after is) ++ print i.tree)
 
 abbrev pub AreItems : ℕ → List Item → Type 0
 AreItems depth [] = ⊤
@@ -36,7 +36,7 @@ AreItems depth (i ∷ is) = AreItems depth is × IsGap i.gap × IsTree i.tree ×
 
 abbrev pub item_values : ℕ → List Item → List OrderedJson
 item_values p [] = []
-item_values p (i ∷ is) = item_values p is ++ value_at (p + length (print_items is ++ print_mark i.gap (comma_after is))) i.tree ∷ []
+item_values p (i ∷ is) = item_values p is ++ value_at (p + length (print_items is ++ print_separator i.gap (comma_after is))) i.tree ∷ []
 
 -- the elements as the grammar has them, before others
 abbrev pub close : List Item → Elements → Elements
@@ -47,8 +47,8 @@ pub print-close : (is : List Item) (es : Elements) → print_elements [] (close 
 print-close [] es = refl
 print-close (i ∷ is) es =
     print-close is (element i.gap i.tree es)
-    ∙ sym (append_assoc (print_items is) (print_mark i.gap (comma_after is) ++ print i.tree) (print_elements (44 ∷ []) es)
-    ∙ ap (λ w. print_items is ++ w) (append_assoc (print_mark i.gap (comma_after is)) (print i.tree) (print_elements (44 ∷ []) es)))
+    ∙ sym (append_assoc (print_items is) (print_separator i.gap (comma_after is) ++ print i.tree) (print_elements (44 ∷ []) es)
+    ∙ ap (λ w. print_items is ++ w) (append_assoc (print_separator i.gap (comma_after is)) (print i.tree) (print_elements (44 ∷ []) es)))
 
 pub are-close : (depth : ℕ) (is : List Item) (es : Elements) → AreItems depth is → AreElements es → AreElements (close is es)
 are-close depth [] es h e = e
@@ -67,16 +67,16 @@ values-close p (i ∷ is) es =
     ∙ sym (append_assoc (item_values p is) (value_at at i.tree ∷ []) (items_at (p + length (print_items (i ∷ is))) (44 ∷ []) es))))
   where
     front : List ℕ
-    front = print_mark i.gap (comma_after is)
+    front = print_separator i.gap (comma_after is)
 
     at : ℕ
-    at = p + length (print_items is ++ print_mark i.gap (comma_after is))
+    at = p + length (print_items is ++ print_separator i.gap (comma_after is))
 
-    start : p + length (print_items is) + length (print_mark i.gap (comma_after is)) ≡ p + length (print_items is ++ print_mark i.gap (comma_after is))
-    start = omega (arith, length-append (print_items is) (print_mark i.gap (comma_after is)))
+    start : p + length (print_items is) + length (print_separator i.gap (comma_after is)) ≡ p + length (print_items is ++ print_separator i.gap (comma_after is))
+    start = omega (arith, length-append (print_items is) (print_separator i.gap (comma_after is)))
 
-    end : p + length (print_items is ++ print_mark i.gap (comma_after is)) + length (print i.tree) ≡ p + length (print_items (i ∷ is))
-    end = omega (arith, length-append (print_items is) (print_mark i.gap (comma_after is)), length-append (print_items is) (print_mark i.gap (comma_after is) ++ print i.tree), length-append (print_mark i.gap (comma_after is)) (print i.tree))
+    end : p + length (print_items is ++ print_separator i.gap (comma_after is)) + length (print i.tree) ≡ p + length (print_items (i ∷ is))
+    end = omega (arith, length-append (print_items is) (print_separator i.gap (comma_after is)), length-append (print_items is) (print_separator i.gap (comma_after is) ++ print i.tree), length-append (print_separator i.gap (comma_after is)) (print i.tree))
 
 -- a member, likewise
 pub record Entry : Type 0 where
@@ -90,7 +90,7 @@ comma_past (e ∷ es) = 44 ∷ []
 
 -- a member up to its value
 abbrev pub print_head : Gap → List ℕ → Key → List ℕ
-print_head gap mark key = print_mark gap mark ++ (print_string key.chars ++ print_colon key.gap)
+print_head gap mark key = print_separator gap mark ++ (print_string key.chars ++ print_colon key.gap)
 
 abbrev pub print_entries : List Entry → List ℕ
 print_entries [] = []
@@ -107,7 +107,7 @@ AreEntries depth (e ∷ es) =
     × (has_key (string_content e.key.chars) (entry_keys es) ≡ false) × IsTaken depth e.tree
 
 abbrev pub key_place : ℕ → List Entry → Gap → ℕ
-key_place p es gap = p + length (print_entries es ++ print_mark gap (comma_past es))
+key_place p es gap = p + length (print_entries es ++ print_separator gap (comma_past es))
 
 abbrev pub entry_member : ℕ → List Entry → Entry → Member
 entry_member p es e =
@@ -138,7 +138,7 @@ print-close_members (e ∷ es) ms =
     print-close_members es (member e.gap e.key e.tree ms)
     ∙ sym (append_assoc (print_entries es) (print_head e.gap (comma_past es) e.key ++ print e.tree) (print_members (44 ∷ []) ms)
     ∙ ap (λ w. print_entries es ++ w) (append_assoc (print_head e.gap (comma_past es) e.key) (print e.tree) (print_members (44 ∷ []) ms)
-    ∙ head_bytes (print_mark e.gap (comma_past es)) (print_string e.key.chars) (print_colon e.key.gap) (print e.tree) (print_members (44 ∷ []) ms)))
+    ∙ head_bytes (print_separator e.gap (comma_past es)) (print_string e.key.chars) (print_colon e.key.gap) (print e.tree) (print_members (44 ∷ []) ms)))
 
 pub are-close_members : (depth : ℕ) (es : List Entry) (ms : Members) → AreEntries depth es → AreMembers ms → AreMembers (close_members es ms)
 are-close_members depth [] ms h m = m
@@ -163,11 +163,11 @@ values-close_members p (e ∷ es) ms =
     before : ℕ
     before = p + length (print_entries es ++ print_head e.gap (comma_past es) e.key)
 
-    start : p + length (print_entries es) + length (print_mark e.gap (comma_past es)) ≡ key_place p es e.gap
-    start = omega (arith, length-append (print_entries es) (print_mark e.gap (comma_past es)))
+    start : p + length (print_entries es) + length (print_separator e.gap (comma_past es)) ≡ key_place p es e.gap
+    start = omega (arith, length-append (print_entries es) (print_separator e.gap (comma_past es)))
 
     middle : key_place p es e.gap + length (print_string e.key.chars ++ print_colon e.key.gap) ≡ p + length (print_entries es ++ print_head e.gap (comma_past es) e.key)
-    middle = omega (arith, length-append (print_entries es) (print_mark e.gap (comma_past es)), length-append (print_entries es) (print_head e.gap (comma_past es) e.key), length-append (print_mark e.gap (comma_past es)) (print_string e.key.chars ++ print_colon e.key.gap))
+    middle = omega (arith, length-append (print_entries es) (print_separator e.gap (comma_past es)), length-append (print_entries es) (print_head e.gap (comma_past es) e.key), length-append (print_separator e.gap (comma_past es)) (print_string e.key.chars ++ print_colon e.key.gap))
 
     end : p + length (print_entries es ++ print_head e.gap (comma_past es) e.key) + length (print e.tree) ≡ p + length (print_entries (e ∷ es))
     end = omega (arith, length-append (print_entries es) (print_head e.gap (comma_past es) e.key), length-append (print_entries es) (print_head e.gap (comma_past es) e.key ++ print e.tree), length-append (print_head e.gap (comma_past es) e.key) (print e.tree))

@@ -6,7 +6,7 @@ use Rattle.ordered_json.specs.declared.json.OrderedJson.{OrderedJson}
 use Rattle.ordered_json.specs.declared.level.Level.{Level}
 use Rattle.ordered_json.specs.declared.level.Level.TheVariants as level
 use Rattle.ordered_json.specs.Words.{key_of}
-use Rattle.ordered_json.specs.Grammar.{is_blank, Char, AreChars, IsSpace, print_string, Tree, array, object, no_elements, element, no_members, member, print, print_mark, Gap, IsGap, IsTree, null, IsPrinted}
+use Rattle.ordered_json.specs.Grammar.{is_blank, Char, AreChars, IsSpace, print_string, Tree, array, object, no_elements, element, no_members, member, print, print_separator, Gap, IsGap, IsTree, null, IsPrinted}
 use Rattle.ordered_json.specs.Meaning.{string_content, value_at, has_key, IsTaken, HasValue}
 use Rattle.ordered_json.specs.Faults.{Begins, BeginsFaultless}
 use Rattle.ordered_json.proofs.StateLemmas.{Ready}
@@ -39,7 +39,7 @@ pub record ListAwaits (outside : List ℕ → Type 0) (depth p : ℕ) (items : L
   pub inside : ListText outside depth p items is front
   pub gap : Gap
   pub white : IsGap gap
-  pub printed : text ≡ front ++ print_mark gap (comma_after is)
+  pub printed : text ≡ front ++ print_separator gap (comma_after is)
 
 -- a key is awaited
 pub record KeyAwaits (outside : List ℕ → Type 0) (depth p : ℕ) (members : List Member) (text : List ℕ) : Type 0 where
@@ -48,7 +48,7 @@ pub record KeyAwaits (outside : List ℕ → Type 0) (depth p : ℕ) (members : 
   pub inside : ObjectText outside depth p members es front
   pub gap : Gap
   pub white : IsGap gap
-  pub printed : text ≡ front ++ print_mark gap (comma_past es)
+  pub printed : text ≡ front ++ print_separator gap (comma_past es)
 
 -- a key is read, and white space
 pub record ColonAwaits (outside : List ℕ → Type 0) (depth p : ℕ) (members : List Member) (key : List ℕ) (key_at : ℕ) (text : List ℕ) : Type 0 where
@@ -87,8 +87,8 @@ space-snoc (c ∷ s) b h e = (h.0, space-snoc s b h.1 e)
 pub snoc-two : (a c : List ℕ) (b : ℕ) → (a ++ c) ++ b ∷ [] ≡ a ++ (c ++ b ∷ [])
 snoc-two a c b = append_assoc a c (b ∷ [])
 
-print_mark-snoc : (g : Gap) (mark : List ℕ) (b : ℕ) → print_mark g mark ++ b ∷ [] ≡ print_mark (gap_of g.before (g.after ++ b ∷ [])) mark
-print_mark-snoc g mark b = append_assoc g.before (mark ++ g.after) (b ∷ []) ∙ ap (λ w. g.before ++ w) (append_assoc mark g.after (b ∷ []))
+print_separator-snoc : (g : Gap) (mark : List ℕ) (b : ℕ) → print_separator g mark ++ b ∷ [] ≡ print_separator (gap_of g.before (g.after ++ b ∷ [])) mark
+print_separator-snoc g mark b = append_assoc g.before (mark ++ g.after) (b ∷ []) ∙ ap (λ w. g.before ++ w) (append_assoc mark g.after (b ∷ []))
 
 list_awaits-blank : {outside : List ℕ → Type 0} {depth p : ℕ} {items : List OrderedJson} (text : List ℕ) (b : ℕ) → is_blank b ≡ true → ListAwaits outside depth p items text → ListAwaits outside depth p items (text ++ b ∷ [])
 list_awaits-blank text b e a = record {
@@ -97,7 +97,7 @@ list_awaits-blank text b e a = record {
   inside = a.inside;
   gap = gap_of a.gap.before (a.gap.after ++ b ∷ []);
   white = (a.white.0, space-snoc a.gap.after b a.white.1 e);
-  printed = ap (λ w. w ++ b ∷ []) a.printed ∙ (snoc-two a.front (print_mark a.gap (comma_after a.is)) b ∙ ap (λ w. a.front ++ w) (print_mark-snoc a.gap (comma_after a.is) b));
+  printed = ap (λ w. w ++ b ∷ []) a.printed ∙ (snoc-two a.front (print_separator a.gap (comma_after a.is)) b ∙ ap (λ w. a.front ++ w) (print_separator-snoc a.gap (comma_after a.is) b));
 }
 
 pub key_awaits-blank : {outside : List ℕ → Type 0} {depth p : ℕ} {members : List Member} (text : List ℕ) (b : ℕ) → is_blank b ≡ true → KeyAwaits outside depth p members text → KeyAwaits outside depth p members (text ++ b ∷ [])
@@ -107,7 +107,7 @@ key_awaits-blank text b e a = record {
   inside = a.inside;
   gap = gap_of a.gap.before (a.gap.after ++ b ∷ []);
   white = (a.white.0, space-snoc a.gap.after b a.white.1 e);
-  printed = ap (λ w. w ++ b ∷ []) a.printed ∙ (snoc-two a.front (print_mark a.gap (comma_past a.es)) b ∙ ap (λ w. a.front ++ w) (print_mark-snoc a.gap (comma_past a.es) b));
+  printed = ap (λ w. w ++ b ∷ []) a.printed ∙ (snoc-two a.front (print_separator a.gap (comma_past a.es)) b ∙ ap (λ w. a.front ++ w) (print_separator-snoc a.gap (comma_past a.es) b));
 }
 
 pub colon_awaits-blank : {outside : List ℕ → Type 0} {depth p : ℕ} {members : List Member} {key : List ℕ} {key_at : ℕ} (text : List ℕ) (b : ℕ) → is_blank b ≡ true → ColonAwaits outside depth p members key key_at text → ColonAwaits outside depth p members key key_at (text ++ b ∷ [])
@@ -155,7 +155,7 @@ faultless-is a b e h = subst BeginsFaultless e h
 -- an array that ends after one more element
 array_with : (depth p : ℕ) (items : List OrderedJson) (text : List ℕ) (outside : List ℕ → Type 0) (a : ListAwaits outside depth p items text) (t : Tree) → text ++ (print t ++ 93 ∷ []) ≡ a.inside.outer ++ print (array (close a.is (element a.gap t (no_elements []))))
 array_with depth p items text outside a t =
-    let l = print_mark a.gap (comma_after a.is) in
+    let l = print_separator a.gap (comma_after a.is) in
     ap (λ w. w ++ (print t ++ 93 ∷ [])) (a.printed ∙ ap (λ w. w ++ l) a.inside.printed)
     ∙ (append_assoc (a.inside.outer ++ 91 ∷ print_items a.is) l (print t ++ 93 ∷ [])
     ∙ (append_assoc a.inside.outer (91 ∷ print_items a.is) (l ++ (print t ++ 93 ∷ []))
@@ -166,7 +166,7 @@ object_with : (depth p : ℕ) (members : List Member) (key : List ℕ) (key_at :
 object_with depth p members key key_at text outside a t =
     let n = a.named in
     let k = a.named.awaited in
-    let l = print_mark k.gap (comma_past k.es) in
+    let l = print_separator k.gap (comma_past k.es) in
     let s = print_string n.chars in
     let rest = print t ++ 125 ∷ [] in
     ap (λ w. w ++ rest) (a.printed ∙ ap (λ w. w ++ 58 ∷ a.gap') (n.printed ∙ ap (λ w. w ++ (s ++ n.gap)) (k.printed ∙ ap (λ w. w ++ l) k.inside.printed)))
@@ -231,7 +231,7 @@ pub plug_key : (ls : List Level) (q : ℕ) (members : List Member) (text : List 
 plug_key ls q members text k cs h =
     let last = member k.gap (key_with cs [] []) null (no_members []) in
     let whole = object (close_members k.es last) in
-    let l = print_mark k.gap (comma_past k.es) in
+    let l = print_separator k.gap (comma_past k.es) in
     let s = print_string cs in
     let tail = 58 ∷ (print null ++ 125 ∷ []) in
     let bytes : text ++ (s ++ tail) ≡ k.inside.outer ++ print whole =

@@ -14,7 +14,7 @@ use Rattle.ordered_json.specs.declared.mode.Mode.{Mode}
 use Rattle.ordered_json.specs.declared.mode.Mode.TheVariants as mode
 use Rattle.ordered_json.specs.declared.mode.Spelling.TheVariants as at
 use Rattle.ordered_json.specs.Words.{key_of}
-use Rattle.ordered_json.specs.Grammar.{Char, AreChars, is_blank, is_decimal, IsSpace, print_chars, print_string, Elements, no_elements, element, Members, no_members, member, print, print_elements, print_members, print_mark, print_colon, Gap, IsGap, AreElements, AreMembers}
+use Rattle.ordered_json.specs.Grammar.{Char, AreChars, is_blank, is_decimal, IsSpace, print_chars, print_string, Elements, no_elements, element, Members, no_members, member, print, print_elements, print_members, print_separator, print_colon, Gap, IsGap, AreElements, AreMembers}
 use Rattle.ordered_json.specs.Meaning.{string_content, has_key}
 use Rattle.ordered_json.specs.Faults.{is_mark, EndsNumber}
 use Rattle.ordered_json.specs.Steps.{Reading, close_list, close_object, between, begin_value, take_byte, in_text, end_text, end_key, take_comma, text_mode}
@@ -115,14 +115,14 @@ ends_space (c ∷ s) b rest h e = ends_blank c h.0
 pub ends_elements : (es : Elements) (rest : List ℕ) → AreElements es → EndsNumber (print_elements (44 ∷ []) es ++ rest)
 ends_elements (no_elements s) rest h = subst EndsNumber (sym (append_assoc s (93 ∷ []) rest)) (ends_space s 93 rest h refl)
 ends_elements (element g t es) rest h =
-    subst EndsNumber (sym (append_assoc (print_mark g (44 ∷ [])) (print t ++ print_elements (44 ∷ []) es) rest ∙ append_assoc g.before (44 ∷ g.after) ((print t ++ print_elements (44 ∷ []) es) ++ rest)))
+    subst EndsNumber (sym (append_assoc (print_separator g (44 ∷ [])) (print t ++ print_elements (44 ∷ []) es) rest ∙ append_assoc g.before (44 ∷ g.after) ((print t ++ print_elements (44 ∷ []) es) ++ rest)))
     (ends_space g.before 44 (g.after ++ ((print t ++ print_elements (44 ∷ []) es) ++ rest)) h.0.0 refl)
 
 pub ends_members : (ms : Members) (rest : List ℕ) → AreMembers ms → EndsNumber (print_members (44 ∷ []) ms ++ rest)
 ends_members (no_members s) rest h = subst EndsNumber (sym (append_assoc s (125 ∷ []) rest)) (ends_space s 125 rest h refl)
 ends_members (member g k t ms) rest h =
     let after = print_string k.chars ++ (print_colon k.gap ++ (print t ++ print_members (44 ∷ []) ms)) in
-    subst EndsNumber (sym (append_assoc (print_mark g (44 ∷ [])) after rest ∙ append_assoc g.before (44 ∷ g.after) (after ++ rest)))
+    subst EndsNumber (sym (append_assoc (print_separator g (44 ∷ [])) after rest ∙ append_assoc g.before (44 ∷ g.after) (after ++ rest)))
     (ends_space g.before 44 (g.after ++ (after ++ rest)) h.0.0 refl)
 
 -- ---- between the elements of an array and the members of an object
@@ -163,26 +163,26 @@ object_comma : (place q : ℕ) (ms : List Member) (ls : List Level) (o : Option 
 unfolding take_byte between take_comma
 object_comma place q ms ls o = refl
 
-length-print_mark : (g : Gap) (mark : List ℕ) → length (print_mark g mark) ≡ length g.before + length mark + length g.after
-length-print_mark g mark = omega (arith, length-append g.before (mark ++ g.after), length-append mark g.after)
+length-print_separator : (g : Gap) (mark : List ℕ) → length (print_separator g mark) ≡ length g.before + length mark + length g.after
+length-print_separator g mark = omega (arith, length-append g.before (mark ++ g.after), length-append mark g.after)
 
-pub list_lead : (f : Bool) (g : Gap) {p : ℕ} {rest : List ℕ} {q : ℕ} {items : List OrderedJson} {ls : List Level} {o : Option OrderedJson} {x : Answer} → IsGap g → Answers (p + length (print_mark g (comma_of f))) rest (Ok (state (awaiting f) (level.List q items ∷ ls) o)) x → Answers p (print_mark g (comma_of f) ++ rest) (Ok (state (list_mode f) (level.List q items ∷ ls) o)) x
+pub list_lead : (f : Bool) (g : Gap) {p : ℕ} {rest : List ℕ} {q : ℕ} {items : List OrderedJson} {ls : List Level} {o : Option OrderedJson} {x : Answer} → IsGap g → Answers (p + length (print_separator g (comma_of f))) rest (Ok (state (awaiting f) (level.List q items ∷ ls) o)) x → Answers p (print_separator g (comma_of f) ++ rest) (Ok (state (list_mode f) (level.List q items ∷ ls) o)) x
 list_lead true g {p} {rest} h a =
     by_bytes (append_assoc g.before g.after rest)
-    (spaces (list_waits true) g.before h.0 (spaces (list_waits true) g.after h.1 (by_place {q = p + length (print_mark g [])} (omega (arith, length-print_mark g [])) a)))
+    (spaces (list_waits true) g.before h.0 (spaces (list_waits true) g.after h.1 (by_place {q = p + length (print_separator g [])} (omega (arith, length-print_separator g [])) a)))
 list_lead false g {p} {rest} {q} {items} {ls} {o} h a =
     by_bytes (append_assoc g.before (44 ∷ g.after) rest)
     (spaces (list_waits false) g.before h.0 (by_step (list_comma (p + length g.before) q items ls o)
-    (spaces (awaiting_waits false) g.after h.1 (by_place {q = p + length (print_mark g (44 ∷ []))} (omega (arith, length-print_mark g (44 ∷ []))) a))))
+    (spaces (awaiting_waits false) g.after h.1 (by_place {q = p + length (print_separator g (44 ∷ []))} (omega (arith, length-print_separator g (44 ∷ []))) a))))
 
-pub object_lead : (f : Bool) (g : Gap) {p : ℕ} {rest : List ℕ} {q : ℕ} {ms : List Member} {ls : List Level} {o : Option OrderedJson} {x : Answer} → IsGap g → Answers (p + length (print_mark g (comma_of f))) rest (Ok (state (key_mode f) (level.Object q ms ∷ ls) o)) x → Answers p (print_mark g (comma_of f) ++ rest) (Ok (state (object_mode f) (level.Object q ms ∷ ls) o)) x
+pub object_lead : (f : Bool) (g : Gap) {p : ℕ} {rest : List ℕ} {q : ℕ} {ms : List Member} {ls : List Level} {o : Option OrderedJson} {x : Answer} → IsGap g → Answers (p + length (print_separator g (comma_of f))) rest (Ok (state (key_mode f) (level.Object q ms ∷ ls) o)) x → Answers p (print_separator g (comma_of f) ++ rest) (Ok (state (object_mode f) (level.Object q ms ∷ ls) o)) x
 object_lead true g {p} {rest} h a =
     by_bytes (append_assoc g.before g.after rest)
-    (spaces (object_waits true) g.before h.0 (spaces (object_waits true) g.after h.1 (by_place {q = p + length (print_mark g [])} (omega (arith, length-print_mark g [])) a)))
+    (spaces (object_waits true) g.before h.0 (spaces (object_waits true) g.after h.1 (by_place {q = p + length (print_separator g [])} (omega (arith, length-print_separator g [])) a)))
 object_lead false g {p} {rest} {q} {ms} {ls} {o} h a =
     by_bytes (append_assoc g.before (44 ∷ g.after) rest)
     (spaces (object_waits false) g.before h.0 (by_step (object_comma (p + length g.before) q ms ls o)
-    (spaces (key_waits false) g.after h.1 (by_place {q = p + length (print_mark g (44 ∷ []))} (omega (arith, length-print_mark g (44 ∷ []))) a))))
+    (spaces (key_waits false) g.after h.1 (by_place {q = p + length (print_separator g (44 ∷ []))} (omega (arith, length-print_separator g (44 ∷ []))) a))))
 
 colon_waits : Waits mode.Colon
 unfolding take_byte

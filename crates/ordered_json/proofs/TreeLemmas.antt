@@ -12,7 +12,7 @@ use Rattle.ordered_json.specs.declared.level.Level.{Level}
 use Rattle.ordered_json.specs.declared.level.Level.TheVariants as level
 use Rattle.ordered_json.specs.declared.mode.Mode.TheVariants as mode
 use Rattle.ordered_json.specs.Words.{key_of, member_of}
-use Rattle.ordered_json.specs.Grammar.{IsSpace, with_minus, print_string, Tree, null, boolean, number, string, array, object, Elements, no_elements, element, Members, no_members, member, print, print_elements, print_members, print_mark, print_colon, Gap, Key, IsGap, IsKey, IsTree, AreElements, AreMembers, IsPrinted}
+use Rattle.ordered_json.specs.Grammar.{IsSpace, with_minus, print_string, Tree, null, boolean, number, string, array, object, Elements, no_elements, element, Members, no_members, member, print, print_elements, print_members, print_separator, print_colon, Gap, Key, IsGap, IsKey, IsTree, AreElements, AreMembers, IsPrinted}
 use Rattle.ordered_json.specs.Meaning.{magnitude, fits, string_content, value_at, items_at, members_at, has_key, IsTaken, ElementsTaken, MembersTaken}
 use Rattle.ordered_json.specs.Faults.{is_mark, EndsNumber}
 use Rattle.ordered_json.specs.Steps.{take_byte, settle, reader_answer, start}
@@ -72,19 +72,19 @@ element_length : (front body back : List ℕ) → length (front ++ (body ++ back
 element_length front body back = omega (arith, length-append front (body ++ back), length-append body back)
 
 element_from : (f : Bool) (g : Gap) (t : Tree) (es : Elements) (p : ℕ) (rest : List ℕ) (q : ℕ) (items : List OrderedJson) (ls : List Level) (o : Option OrderedJson) (x : Answer) → IsGap g
-    → ((y : Answer) → Answers (p + length (print_mark g (comma_of f)) + length (print t)) (print_elements (44 ∷ []) es ++ rest) (Ok (state mode.After (level.List q (items ++ value_at (p + length (print_mark g (comma_of f))) t ∷ []) ∷ ls) o)) y → Reads (IsTaken (suc (length ls)) t) (p + length (print_mark g (comma_of f))) (print t ++ (print_elements (44 ∷ []) es ++ rest)) (Ok (state (awaiting f) (level.List q items ∷ ls) o)) y)
-    → Reads (ElementsTaken (suc (length ls)) es) (p + length (print_mark g (comma_of f)) + length (print t)) (print_elements (44 ∷ []) es ++ rest) (Ok (state mode.After (level.List q (items ++ value_at (p + length (print_mark g (comma_of f))) t ∷ []) ∷ ls) o)) x
+    → ((y : Answer) → Answers (p + length (print_separator g (comma_of f)) + length (print t)) (print_elements (44 ∷ []) es ++ rest) (Ok (state mode.After (level.List q (items ++ value_at (p + length (print_separator g (comma_of f))) t ∷ []) ∷ ls) o)) y → Reads (IsTaken (suc (length ls)) t) (p + length (print_separator g (comma_of f))) (print t ++ (print_elements (44 ∷ []) es ++ rest)) (Ok (state (awaiting f) (level.List q items ∷ ls) o)) y)
+    → Reads (ElementsTaken (suc (length ls)) es) (p + length (print_separator g (comma_of f)) + length (print t)) (print_elements (44 ∷ []) es ++ rest) (Ok (state mode.After (level.List q (items ++ value_at (p + length (print_separator g (comma_of f))) t ∷ []) ∷ ls) o)) x
     → Reads (ElementsTaken (suc (length ls)) (element g t es)) p (print_elements (comma_of f) (element g t es) ++ rest) (Ok (state (list_mode f) (level.List q items ∷ ls) o)) x
 element_from f g t es p rest q items ls o x h tree (inl a) = led (tree x a)
   where
-    led : Reads (IsTaken (suc (length ls)) t) (p + length (print_mark g (comma_of f))) (print t ++ (print_elements (44 ∷ []) es ++ rest)) (Ok (state (awaiting f) (level.List q items ∷ ls) o)) x → Reads (ElementsTaken (suc (length ls)) (element g t es)) p (print_elements (comma_of f) (element g t es) ++ rest) (Ok (state (list_mode f) (level.List q items ∷ ls) o)) x
-    led (inl b) = inl (by_bytes (element_bytes (print_mark g (comma_of f)) (print t) (print_elements (44 ∷ []) es) rest) (list_lead f g h b))
-    led (inr b) = inr (λ taken. b.0 taken.0, b.1, b.2, by_bytes (element_bytes (print_mark g (comma_of f)) (print t) (print_elements (44 ∷ []) es) rest) (list_lead f g h b.3))
+    led : Reads (IsTaken (suc (length ls)) t) (p + length (print_separator g (comma_of f))) (print t ++ (print_elements (44 ∷ []) es ++ rest)) (Ok (state (awaiting f) (level.List q items ∷ ls) o)) x → Reads (ElementsTaken (suc (length ls)) (element g t es)) p (print_elements (comma_of f) (element g t es) ++ rest) (Ok (state (list_mode f) (level.List q items ∷ ls) o)) x
+    led (inl b) = inl (by_bytes (element_bytes (print_separator g (comma_of f)) (print t) (print_elements (44 ∷ []) es) rest) (list_lead f g h b))
+    led (inr b) = inr (λ taken. b.0 taken.0, b.1, b.2, by_bytes (element_bytes (print_separator g (comma_of f)) (print t) (print_elements (44 ∷ []) es) rest) (list_lead f g h b.3))
 element_from f g t es p rest q items ls o x h tree (inr c) = led (tree (Err c.1) c.3)
   where
-    led : Reads (IsTaken (suc (length ls)) t) (p + length (print_mark g (comma_of f))) (print t ++ (print_elements (44 ∷ []) es ++ rest)) (Ok (state (awaiting f) (level.List q items ∷ ls) o)) (Err c.1) → Reads (ElementsTaken (suc (length ls)) (element g t es)) p (print_elements (comma_of f) (element g t es) ++ rest) (Ok (state (list_mode f) (level.List q items ∷ ls) o)) x
-    led (inl b) = inr (λ taken. c.0 taken.1, c.1, c.2, by_bytes (element_bytes (print_mark g (comma_of f)) (print t) (print_elements (44 ∷ []) es) rest) (list_lead f g h b))
-    led (inr b) = inr (λ taken. b.0 taken.0, b.1, b.2, by_bytes (element_bytes (print_mark g (comma_of f)) (print t) (print_elements (44 ∷ []) es) rest) (list_lead f g h b.3))
+    led : Reads (IsTaken (suc (length ls)) t) (p + length (print_separator g (comma_of f))) (print t ++ (print_elements (44 ∷ []) es ++ rest)) (Ok (state (awaiting f) (level.List q items ∷ ls) o)) (Err c.1) → Reads (ElementsTaken (suc (length ls)) (element g t es)) p (print_elements (comma_of f) (element g t es) ++ rest) (Ok (state (list_mode f) (level.List q items ∷ ls) o)) x
+    led (inl b) = inr (λ taken. c.0 taken.1, c.1, c.2, by_bytes (element_bytes (print_separator g (comma_of f)) (print t) (print_elements (44 ∷ []) es) rest) (list_lead f g h b))
+    led (inr b) = inr (λ taken. b.0 taken.0, b.1, b.2, by_bytes (element_bytes (print_separator g (comma_of f)) (print t) (print_elements (44 ∷ []) es) rest) (list_lead f g h b.3))
 
 -- ---- objects
 object_from : (f : Bool) (ms : Members) (p : ℕ) (rest : List ℕ) (ls : List Level) (o : Option OrderedJson) (x : Answer) (room : Bool) → nat_lt (length ls) MAX_LEVELS ≡ room → Reads (MembersTaken (suc (length ls)) [] ms) (p + 1) (print_members [] ms ++ rest) (Ok (state mode.FirstKey (level.Object p [] ∷ ls) o)) x → Reads (IsTaken (length ls) (object ms)) p (print (object ms) ++ rest) (Ok (state (awaiting f) ls o)) x
@@ -103,7 +103,7 @@ member_length front key gap body back = omega (arith, length-append front (key +
 
 -- the places of a member's key and value, and of what follows
 abbrev key_at : Bool → ℕ → Gap → ℕ
-key_at f p g = p + length (print_mark g (comma_of f))
+key_at f p g = p + length (print_separator g (comma_of f))
 
 abbrev value_from : Bool → ℕ → Gap → Key → ℕ
 value_from f p g k = key_at f p g + length (print_string k.chars ++ print_colon k.gap)
@@ -117,14 +117,14 @@ member_from f g k t ms p rest q before ls o x true e h hk tree reads =
       λ taken. (let clash : true ≡ false = sym e ∙ taken.0 in cc),
       DoubleKey (key_at f p g),
       tt,
-      by_bytes (member_bytes (print_mark g (comma_of f)) (print_string k.chars) (print_colon k.gap) (print t) (print_members (44 ∷ []) ms) rest)
+      by_bytes (member_bytes (print_separator g (comma_of f)) (print_string k.chars) (print_colon k.gap) (print t) (print_members (44 ∷ []) ms) rest)
           (object_lead f g h (key_refused f k.chars (print_colon k.gap ++ (print t ++ (print_members (44 ∷ []) ms ++ rest))) hk.0 e)),
     )
 member_from f g k t ms p rest q before ls o x false e h hk tree reads = chosen reads
   where
     goes : (y : Answer) → Answers (value_from f p g k) (print t ++ (print_members (44 ∷ []) ms ++ rest)) (Ok (state mode.Value (level.Member q before (string_content k.chars) (key_at f p g) ∷ ls) o)) y → Answers p (print_members (comma_of f) (member g k t ms) ++ rest) (Ok (state (object_mode f) (level.Object q before ∷ ls) o)) y
     goes y a =
-        by_bytes (member_bytes (print_mark g (comma_of f)) (print_string k.chars) (print_colon k.gap) (print t) (print_members (44 ∷ []) ms) rest)
+        by_bytes (member_bytes (print_separator g (comma_of f)) (print_string k.chars) (print_colon k.gap) (print t) (print_members (44 ∷ []) ms) rest)
         (object_lead f g h (key_read f k.chars hk.0 e (colon_read k.gap hk.1 (by_place {q = value_from f p g k} (omega (arith, length-append (print_string k.chars) (print_colon k.gap))) a))))
 
     led : (y : Answer) → ((MembersTaken (suc (length ls)) (map key_of before) (member g k t ms) → ⊥) × (fault : JsonFault) × IsRefusal fault × (y ≡ Err fault)) ⊎ (y ≡ x) → Reads (IsTaken (suc (length ls)) t) (value_from f p g k) (print t ++ (print_members (44 ∷ []) ms ++ rest)) (Ok (state mode.Value (level.Member q before (string_content k.chars) (key_at f p g) ∷ ls) o)) y → Reads (MembersTaken (suc (length ls)) (map key_of before) (member g k t ms)) p (print_members (comma_of f) (member g k t ms) ++ rest) (Ok (state (object_mode f) (level.Object q before ∷ ls) o)) x
@@ -158,12 +158,12 @@ mutual
       (by_place {q = p + length (s ++ 93 ∷ [])} (omega (arith, length-append s (93 ∷ [])))
       (by_same (ap (λ js. Ok (finished (a_list q js) ls o)) (sym (append-nil items))) a)))))
   elements_read (element g t es) f p rest ls o q items x h r a =
-      let start = p + length (print_mark g (comma_of f)) in
+      let start = p + length (print_separator g (comma_of f)) in
       let v = value_at start t in
       element_from f g t es p rest q items ls o x h.0
       (λ y b. tree_read t f start (print_elements (44 ∷ []) es ++ rest) (level.List q items ∷ ls) o y h.1 r (ends_elements es rest h.2) b)
       (elements_read es false (start + length (print t)) rest ls o q (items ++ v ∷ []) x h.2 r
-      (by_place {q = p + length (print_elements (comma_of f) (element g t es))} (omega (arith, element_length (print_mark g (comma_of f)) (print t) (print_elements (44 ∷ []) es)))
+      (by_place {q = p + length (print_elements (comma_of f) (element g t es))} (omega (arith, element_length (print_separator g (comma_of f)) (print t) (print_elements (44 ∷ []) es)))
       (by_same (ap (λ js. Ok (finished (a_list q js) ls o)) (append_assoc items (v ∷ []) (items_at (start + length (print t)) (44 ∷ []) es))) a)))
 
   pub members_read : (ms : Members) (f : Bool) (p : ℕ) (rest : List ℕ) (ls : List Level) (o : Option OrderedJson) (q : ℕ) (before : List Member) (x : Answer) → AreMembers ms → Ready ls → Answers (p + length (print_members (comma_of f) ms)) rest (Ok (finished (Object q (before ++ members_at p (comma_of f) ms)) ls o)) x → Reads (MembersTaken (suc (length ls)) (map key_of before) ms) p (print_members (comma_of f) ms ++ rest) (Ok (state (object_mode f) (level.Object q before ∷ ls) o)) x
@@ -180,7 +180,7 @@ mutual
       (λ y b. tree_read t false start (print_members (44 ∷ []) ms ++ rest) (level.Member q before (string_content k.chars) (key_at f p g) ∷ ls) o y h.2 r (ends_members ms rest h.3) b)
       (subst (λ ks. Reads (MembersTaken (suc (length ls)) ks ms) (start + length (print t)) (print_members (44 ∷ []) ms ++ rest) (Ok (state mode.After (level.Object q (before ++ m ∷ []) ∷ ls) o)) x) keys
       (members_read ms false (start + length (print t)) rest ls o q (before ++ m ∷ []) x h.3 r
-      (by_place {q = p + length (print_members (comma_of f) (member g k t ms))} (omega (arith, member_length (print_mark g (comma_of f)) (print_string k.chars) (print_colon k.gap) (print t) (print_members (44 ∷ []) ms), length-append (print_string k.chars) (print_colon k.gap)))
+      (by_place {q = p + length (print_members (comma_of f) (member g k t ms))} (omega (arith, member_length (print_separator g (comma_of f)) (print_string k.chars) (print_colon k.gap) (print t) (print_members (44 ∷ []) ms), length-append (print_string k.chars) (print_colon k.gap)))
       (by_same (ap (λ js. Ok (finished (Object q js) ls o)) (append_assoc before (m ∷ []) (members_at (start + length (print t)) (44 ∷ []) ms))) a))))
 
 -- ---- a text

@@ -7,7 +7,7 @@ use Rattle.ordered_json.specs.declared.level.Level.TheVariants as level
 use Rattle.ordered_json.specs.declared.mode.Mode.TheVariants as mode
 use Rattle.ordered_json.specs.declared.reader.Reader.{Reader}
 use Rattle.ordered_json.specs.Words.{key_of, member_of}
-use Rattle.ordered_json.specs.Grammar.{Char, AreChars, IsSpace, print_string, Tree, null, array, object, no_elements, no_members, print, print_mark, print_colon, IsTree}
+use Rattle.ordered_json.specs.Grammar.{Char, AreChars, IsSpace, print_string, Tree, null, array, object, no_elements, no_members, print, print_separator, print_colon, IsTree}
 use Rattle.ordered_json.specs.Meaning.{string_content, value_at, has_key, IsTaken, HasValue}
 use Rattle.ordered_json.specs.Faults.{BeginsFaultless, AwaitsValue, AwaitsKey}
 use Rattle.ordered_json.proofs.StateLemmas.{state, finished}
@@ -52,7 +52,7 @@ item_bytes outer body l t front text bracket f g =
 pub finished_after : (ls : List Level) (text : List ℕ) → Awaits ls text → (t : Tree) → IsTree t → IsTaken (length ls) t → AfterValue (text ++ print t) (finished (value_at (length text) t) ls None)
 finished_after [] text a t h taken = after_all (text, t, [], record { white_before = a; well_formed = h; white_after = tt; printed = ap (λ w. text ++ w) (sym (append-nil (print t))) }, taken, refl)
 finished_after (level.List p items ∷ ls) text a t h taken =
-    let l = print_mark a.gap (comma_after a.is) in
+    let l = print_separator a.gap (comma_after a.is) in
     after_item (record {
       last = record { gap = a.gap; tree = t };
       is = a.is;
@@ -74,7 +74,7 @@ finished_after (level.Object p members ∷ ls) text a t h taken = absurd a
 finished_after (level.Member p members key key_at ∷ ls) text a t h taken =
     let n = a.named in
     let k = a.named.awaited in
-    let l = print_mark k.gap (comma_past k.es) in
+    let l = print_separator k.gap (comma_past k.es) in
     let s = print_string n.chars in
     let gap = print_colon (gap_of n.gap a.gap') in
     let before = print_entries k.es in

@@ -134,12 +134,12 @@ pub record Gap : Type 0 where
 abbrev pub IsGap : Gap → Type 0
 IsGap gap = IsSpace gap.before × IsSpace gap.after
 
--- a mark among its white space
-abbrev pub print_mark : Gap → List ℕ → List ℕ
-print_mark gap mark = gap.before ++ (mark ++ gap.after)
+-- a comma, a colon or nothing, among its white space
+abbrev pub print_separator : Gap → List ℕ → List ℕ
+print_separator gap separator = gap.before ++ (separator ++ gap.after)
 
 abbrev pub print_colon : Gap → List ℕ
-print_colon gap = print_mark gap (colon ∷ [])
+print_colon gap = print_separator gap (colon ∷ [])
 
 -- the characters of a member's key, and the white space round its colon
 pub record Key : Type 0 where
@@ -180,14 +180,14 @@ abbrev mutual
 
   -- with the closing bracket; the comma stands before the first element that is left
   pub print_elements : List ℕ → Elements → List ℕ
-  print_elements mark (no_elements s) = s ++ closing_bracket ∷ []
-  print_elements mark (element gap t es) =
-      print_mark gap mark ++ (print t ++ print_elements (comma ∷ []) es)
+  print_elements separator (no_elements s) = s ++ closing_bracket ∷ []
+  print_elements separator (element gap t es) =
+      print_separator gap separator ++ (print t ++ print_elements (comma ∷ []) es)
 
   pub print_members : List ℕ → Members → List ℕ
-  print_members mark (no_members s) = s ++ closing_brace ∷ []
-  print_members mark (member gap key t ms) =
-      print_mark gap mark
+  print_members separator (no_members s) = s ++ closing_brace ∷ []
+  print_members separator (member gap key t ms) =
+      print_separator gap separator
       ++ (print_string key.chars ++ (print_colon key.gap ++ (print t ++ print_members (comma ∷ []) ms)))
 
 -- the parts are what the grammar asks for in their places

@@ -8,7 +8,7 @@ use Rattle.ordered_json.specs.declared.TheConstants.{MAX_TEXT, MAX_LEVELS}
 use Rattle.ordered_json.specs.declared.json.Member.{Member}
 use Rattle.ordered_json.specs.declared.json.OrderedJson.{OrderedJson, Null, Bool as a_bool, Int, Text, List as a_list, Object}
 use Rattle.ordered_json.specs.Words.{member_of}
-use Rattle.ordered_json.specs.Grammar.{Char, plain, escaped, coded, paired, unit_value, escape_value, Tree, null, boolean, number, string, array, object, Elements, no_elements, element, Members, no_members, member, print, print_string, print_mark, print_colon, IsPrinted}
+use Rattle.ordered_json.specs.Grammar.{Char, plain, escaped, coded, paired, unit_value, escape_value, Tree, null, boolean, number, string, array, object, Elements, no_elements, element, Members, no_members, member, print, print_string, print_separator, print_colon, IsPrinted}
 
 -- the number that decimal digits spell
 abbrev pub magnitude : List ℕ → ℕ
@@ -49,15 +49,15 @@ abbrev mutual
   value_at p (object ms) = Object p (members_at (p + 1) [] ms)
 
   pub items_at : ℕ → List ℕ → Elements → List OrderedJson
-  items_at p mark (no_elements s) = []
-  items_at p mark (element gap t es) =
-      let q = p + length (print_mark gap mark) in
+  items_at p separator (no_elements s) = []
+  items_at p separator (element gap t es) =
+      let q = p + length (print_separator gap separator) in
       value_at q t ∷ items_at (q + length (print t)) (comma ∷ []) es
 
   pub members_at : ℕ → List ℕ → Members → List Member
-  members_at p mark (no_members s) = []
-  members_at p mark (member gap key t ms) =
-      let q = p + length (print_mark gap mark) in
+  members_at p separator (no_members s) = []
+  members_at p separator (member gap key t ms) =
+      let q = p + length (print_separator gap separator) in
       let v = q + length (print_string key.chars ++ print_colon key.gap) in
       member_of (string_content key.chars) q (value_at v t)
       ∷ members_at (v + length (print t)) (comma ∷ []) ms

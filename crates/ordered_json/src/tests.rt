@@ -187,7 +187,7 @@ fn faults_are_printed_with_their_places(rt: HostRuntime) -> Result<(), Fail> {
         ),
         (
             JsonFault::TooDeep(64),
-            "the bracket at byte 64 opens a 65th level",
+            "the bracket at byte 64 opens more than 64 levels",
         ),
         (JsonFault::TooLong, "the text is longer than 1048576 bytes"),
         (JsonFault::Memory, "out of memory"),
