@@ -5,7 +5,7 @@ use Rattle.ordered_json.specs.declared.TheConstants.{MAX_TEXT}
 use Rattle.ordered_json.specs.declared.fault.JsonFault.{JsonFault}
 use Rattle.ordered_json.specs.declared.fault.JsonFault.TheVariants.{Syntax, DoubleKey, Fraction, Range, TooDeep, TooLong, Memory}
 use Rattle.ordered_json.specs.declared.json.OrderedJson.{OrderedJson}
-use Rattle.ordered_json.specs.Grammar.{Char, AreChars, IsWhole, is_decimal, signed, print_string, IsJson}
+use Rattle.ordered_json.specs.Grammar.{Char, AreChars, IsWhole, is_decimal, with_minus, print_string, IsJson}
 use Rattle.ordered_json.specs.Meaning.{magnitude, fits, HasValue}
 
 -- some JSON text begins with these bytes
@@ -23,13 +23,16 @@ AwaitsValue text = BeginsFaultless (text ++ line_feed ∷ codes "null")
 
 -- likewise for a key: a line feed, some string and a colon may stand there
 abbrev pub AwaitsKey : List ℕ → Type 0
-AwaitsKey text = (key : List Char) × AreChars key × BeginsFaultless (text ++ (line_feed ∷ (print_string key ++ colon ∷ [])))
+AwaitsKey text =
+    (key : List Char) × AreChars key × BeginsFaultless (text ++ (line_feed ∷ (print_string key ++ colon ∷ [])))
 
 -- Up to the place no fault is found. Either the text ends there and is no JSON text, or no JSON text
 -- begins with the bytes up to the one at the place.
 pub record HasSyntaxFault (text : List ℕ) (place : ℕ) : Type 0 where
   pub faultless : BeginsFaultless (take place text)
-  pub fault : ((place ≡ length text) × (IsJson text → ⊥)) ⊎ ((place < length text) × (Begins (take (place + 1) text) → ⊥))
+  pub fault :
+      ((place ≡ length text) × (IsJson text → ⊥))
+      ⊎ ((place < length text) × (Begins (take (place + 1) text) → ⊥))
 
 -- A key stands at the place, and its closing quote makes a fault: the object has the key already.
 pub record HasDoubleKey (text : List ℕ) (place : ℕ) : Type 0 where
@@ -48,7 +51,7 @@ pub record HasNumber (text : List ℕ) (place : ℕ) : Type 0 where
   pub rest : List ℕ
   pub within : place ≤ length text
   pub whole : IsWhole digits
-  pub stands : drop place text ≡ signed minus digits ++ rest
+  pub stands : drop place text ≡ with_minus minus digits ++ rest
   pub awaited : AwaitsValue (take place text)
 
 -- what makes a number one with a fraction or an exponent: `.`, `e` or `E`
@@ -69,7 +72,8 @@ HasFraction text place = (number : HasNumber text place) × BeginsWithMark numbe
 
 abbrev pub IsOutOfRange : List ℕ → ℕ → Type 0
 IsOutOfRange text place =
-    (number : HasNumber text place) × EndsNumber number.rest × (fits number.minus (magnitude number.digits) ≡ false)
+    (number : HasNumber text place) × EndsNumber number.rest
+    × (fits number.minus (magnitude number.digits) ≡ false)
 
 -- A bracket stands at the place where a value may begin, and makes a fault: it opens a level too many.
 pub record IsTooDeep (text : List ℕ) (place : ℕ) : Type 0 where

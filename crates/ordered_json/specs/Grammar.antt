@@ -40,9 +40,9 @@ IsExponent [] = ⊤
 IsExponent (b ∷ bs) = ((b ≡ small_e) ⊎ (b ≡ capital_e)) × AreSignedDigits bs
 
 -- the minus, if there is one, and the digits
-abbrev pub signed : Bool → List ℕ → List ℕ
-signed true digits = hyphen ∷ digits
-signed false digits = digits
+abbrev pub with_minus : Bool → List ℕ → List ℕ
+with_minus true digits = hyphen ∷ digits
+with_minus false digits = digits
 
 -- four hexadecimal digits, which spell a code unit of UTF-16 (section 7)
 pub record CodeUnit : Type 0 where
@@ -60,10 +60,13 @@ pub data Char : Type 0 where
   paired : CodeUnit → CodeUnit → Char
 
 abbrev pub are_hex : CodeUnit → Bool
-are_hex u = (is_digit u.first 16 && is_digit u.second 16) && (is_digit u.third 16 && is_digit u.fourth 16)
+are_hex u =
+    (is_digit u.first 16 && is_digit u.second 16) && (is_digit u.third 16 && is_digit u.fourth 16)
 
 abbrev pub unit_value : CodeUnit → ℕ
-unit_value u = ((digit_value u.first * 16 + digit_value u.second) * 16 + digit_value u.third) * 16 + digit_value u.fourth
+unit_value u =
+    ((digit_value u.first * 16 + digit_value u.second) * 16 + digit_value u.third) * 16
+    + digit_value u.fourth
 
 abbrev pub is_high_surrogate : ℕ → Bool
 is_high_surrogate c = nat_le 0xD800 c && nat_lt c 0xDC00
@@ -95,8 +98,11 @@ escape_value b =
 abbrev pub IsChar : Char → Type 0
 IsChar (plain c) = IsScalar c × (space ≤ c) × (c == quotation_mark ≡ false) × (c == backslash ≡ false)
 IsChar (escaped b) = escape_value b == 0 ≡ false
-IsChar (coded u) = (are_hex u ≡ true) × (is_high_surrogate (unit_value u) ≡ false) × (is_low_surrogate (unit_value u) ≡ false)
-IsChar (paired u v) = (are_hex u ≡ true) × (are_hex v ≡ true) × (is_high_surrogate (unit_value u) ≡ true) × (is_low_surrogate (unit_value v) ≡ true)
+IsChar (coded u) =
+    (are_hex u ≡ true) × (is_high_surrogate (unit_value u) ≡ false) × (is_low_surrogate (unit_value u) ≡ false)
+IsChar (paired u v) =
+    (are_hex u ≡ true) × (are_hex v ≡ true) × (is_high_surrogate (unit_value u) ≡ true)
+    × (is_low_surrogate (unit_value v) ≡ true)
 
 abbrev pub AreChars : List Char → Type 0
 AreChars [] = ⊤
@@ -120,6 +126,29 @@ print_chars (c ∷ cs) = print_char c ++ print_chars cs
 abbrev pub print_string : List Char → List ℕ
 print_string cs = quotation_mark ∷ (print_chars cs ++ quotation_mark ∷ [])
 
+-- white space before and after a comma or a colon
+pub record Gap : Type 0 where
+  pub before : List ℕ
+  pub after : List ℕ
+
+abbrev pub IsGap : Gap → Type 0
+IsGap gap = IsSpace gap.before × IsSpace gap.after
+
+-- a comma, a colon or nothing, among its white space
+abbrev pub print_separator : Gap → List ℕ → List ℕ
+print_separator gap separator = gap.before ++ (separator ++ gap.after)
+
+abbrev pub print_colon : Gap → List ℕ
+print_colon gap = print_separator gap (colon ∷ [])
+
+-- the characters of a member's key, and the white space round its colon
+pub record Key : Type 0 where
+  pub chars : List Char
+  pub gap : Gap
+
+abbrev pub IsKey : Key → Type 0
+IsKey key = AreChars key.chars × IsGap key.gap
+
 -- A value (section 3). In an array and an object (sections 4 and 5) each element or member is written
 -- after white space, the comma of all but the first, and white space again.
 mutual
@@ -133,57 +162,52 @@ mutual
 
   pub data Elements : Type 0 where
     no_elements : List ℕ → Elements
-    element : List ℕ → List ℕ → Tree → Elements → Elements
+    element : Gap → Tree → Elements → Elements
 
   pub data Members : Type 0 where
     no_members : List ℕ → Members
-    member : List ℕ → List ℕ → List Char → List ℕ → List ℕ → Tree → Members → Members
-
--- what stands before an element or a member: its comma, if it has one, among white space
-abbrev pub lead : List ℕ → List ℕ → List ℕ → List ℕ
-lead s mark s' = s ++ (mark ++ s')
-
--- what stands between a key and its value: the colon, among white space
-abbrev pub key_end : List ℕ → List ℕ → List ℕ
-key_end s s' = s ++ colon ∷ s'
+    member : Gap → Key → Tree → Members → Members
 
 abbrev mutual
   pub print : Tree → List ℕ
   print null = codes "null"
   print (boolean true) = codes "true"
   print (boolean false) = codes "false"
-  print (number minus digits fraction exponent) = signed minus digits ++ (fraction ++ exponent)
+  print (number minus digits fraction exponent) = with_minus minus digits ++ (fraction ++ exponent)
   print (string cs) = print_string cs
   print (array es) = opening_bracket ∷ print_elements [] es
   print (object ms) = opening_brace ∷ print_members [] ms
 
   -- with the closing bracket; the comma stands before the first element that is left
   pub print_elements : List ℕ → Elements → List ℕ
-  print_elements mark (no_elements s) = s ++ closing_bracket ∷ []
-  print_elements mark (element s s' t es) = lead s mark s' ++ (print t ++ print_elements (comma ∷ []) es)
+  print_elements separator (no_elements s) = s ++ closing_bracket ∷ []
+  print_elements separator (element gap t es) =
+      print_separator gap separator ++ (print t ++ print_elements (comma ∷ []) es)
 
   pub print_members : List ℕ → Members → List ℕ
-  print_members mark (no_members s) = s ++ closing_brace ∷ []
-  print_members mark (member s s' k r r' t ms) =
-      lead s mark s' ++ (print_string k ++ (key_end r r' ++ (print t ++ print_members (comma ∷ []) ms)))
+  print_members separator (no_members s) = s ++ closing_brace ∷ []
+  print_members separator (member gap key t ms) =
+      print_separator gap separator
+      ++ (print_string key.chars ++ (print_colon key.gap ++ (print t ++ print_members (comma ∷ []) ms)))
 
 -- the parts are what the grammar asks for in their places
 abbrev mutual
   pub IsTree : Tree → Type 0
   IsTree null = ⊤
   IsTree (boolean b) = ⊤
-  IsTree (number minus digits fraction exponent) = IsWhole digits × IsFraction fraction × IsExponent exponent
+  IsTree (number minus digits fraction exponent) =
+      IsWhole digits × IsFraction fraction × IsExponent exponent
   IsTree (string cs) = AreChars cs
   IsTree (array es) = AreElements es
   IsTree (object ms) = AreMembers ms
 
   pub AreElements : Elements → Type 0
   AreElements (no_elements s) = IsSpace s
-  AreElements (element s s' t es) = IsSpace s × IsSpace s' × IsTree t × AreElements es
+  AreElements (element gap t es) = IsGap gap × IsTree t × AreElements es
 
   pub AreMembers : Members → Type 0
   AreMembers (no_members s) = IsSpace s
-  AreMembers (member s s' k r r' t ms) = IsSpace s × IsSpace s' × AreChars k × IsSpace r × IsSpace r' × IsTree t × AreMembers ms
+  AreMembers (member gap key t ms) = IsGap gap × IsKey key × IsTree t × AreMembers ms
 
 -- the text is this tree's, among white space
 pub record IsPrinted (text before : List ℕ) (tree : Tree) (after : List ℕ) : Type 0 where

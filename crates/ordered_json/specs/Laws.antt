@@ -12,8 +12,12 @@ MeaningIsUnique = (text : List ℕ) (a b : OrderedJson) → Means text a → Mea
 
 -- a text with a meaning has no fault
 abbrev pub MeaningExcludesFault : Type 0
-MeaningExcludesFault = (text : List ℕ) (json : OrderedJson) (fault : JsonFault) → fault ≢ Memory → Means text json → HasFault text fault → ⊥
+MeaningExcludesFault =
+    (text : List ℕ) (json : OrderedJson) (fault : JsonFault)
+    → fault ≢ Memory → Means text json → HasFault text fault → ⊥
 
 -- a text has at most one first fault
 abbrev pub FaultIsUnique : Type 0
-FaultIsUnique = (text : List ℕ) (a b : JsonFault) → a ≢ Memory → b ≢ Memory → HasFault text a → HasFault text b → a ≡ b
+FaultIsUnique =
+    (text : List ℕ) (a b : JsonFault)
+    → a ≢ Memory → b ≢ Memory → HasFault text a → HasFault text b → a ≡ b

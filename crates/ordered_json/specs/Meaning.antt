@@ -8,7 +8,7 @@ use Rattle.ordered_json.specs.declared.TheConstants.{MAX_TEXT, MAX_LEVELS}
 use Rattle.ordered_json.specs.declared.json.Member.{Member}
 use Rattle.ordered_json.specs.declared.json.OrderedJson.{OrderedJson, Null, Bool as a_bool, Int, Text, List as a_list, Object}
 use Rattle.ordered_json.specs.Words.{member_of}
-use Rattle.ordered_json.specs.Grammar.{Char, plain, escaped, coded, paired, unit_value, escape_value, Tree, null, boolean, number, string, array, object, Elements, no_elements, element, Members, no_members, member, print, print_string, lead, key_end, IsPrinted}
+use Rattle.ordered_json.specs.Grammar.{Char, plain, escaped, coded, paired, unit_value, escape_value, Tree, null, boolean, number, string, array, object, Elements, no_elements, element, Members, no_members, member, print, print_string, print_separator, print_colon, IsPrinted}
 
 -- the number that decimal digits spell
 abbrev pub magnitude : List ℕ → ℕ
@@ -49,17 +49,18 @@ abbrev mutual
   value_at p (object ms) = Object p (members_at (p + 1) [] ms)
 
   pub items_at : ℕ → List ℕ → Elements → List OrderedJson
-  items_at p mark (no_elements s) = []
-  items_at p mark (element s s' t es) =
-      let q = p + length (lead s mark s') in
+  items_at p separator (no_elements s) = []
+  items_at p separator (element gap t es) =
+      let q = p + length (print_separator gap separator) in
       value_at q t ∷ items_at (q + length (print t)) (comma ∷ []) es
 
   pub members_at : ℕ → List ℕ → Members → List Member
-  members_at p mark (no_members s) = []
-  members_at p mark (member s s' k r r' t ms) =
-      let q = p + length (lead s mark s') in
-      let v = q + length (print_string k ++ key_end r r') in
-      member_of (string_content k) q (value_at v t) ∷ members_at (v + length (print t)) (comma ∷ []) ms
+  members_at p separator (no_members s) = []
+  members_at p separator (member gap key t ms) =
+      let q = p + length (print_separator gap separator) in
+      let v = q + length (print_string key.chars ++ print_colon key.gap) in
+      member_of (string_content key.chars) q (value_at v t)
+      ∷ members_at (v + length (print t)) (comma ∷ []) ms
 
 -- whether one of the keys has these bytes
 abbrev pub has_key : List ℕ → List (List ℕ) → Bool
@@ -71,20 +72,22 @@ abbrev mutual
   pub IsTaken : ℕ → Tree → Type 0
   IsTaken depth null = ⊤
   IsTaken depth (boolean b) = ⊤
-  IsTaken depth (number minus digits fraction exponent) = (fraction ≡ []) × (exponent ≡ []) × (fits minus (magnitude digits) ≡ true)
+  IsTaken depth (number minus digits fraction exponent) =
+      (fraction ≡ []) × (exponent ≡ []) × (fits minus (magnitude digits) ≡ true)
   IsTaken depth (string cs) = ⊤
   IsTaken depth (array es) = (depth < MAX_LEVELS) × ElementsTaken (suc depth) es
   IsTaken depth (object ms) = (depth < MAX_LEVELS) × MembersTaken (suc depth) [] ms
 
   pub ElementsTaken : ℕ → Elements → Type 0
   ElementsTaken depth (no_elements s) = ⊤
-  ElementsTaken depth (element s s' t es) = IsTaken depth t × ElementsTaken depth es
+  ElementsTaken depth (element gap t es) = IsTaken depth t × ElementsTaken depth es
 
   -- `keys` are those of the members before
   pub MembersTaken : ℕ → List (List ℕ) → Members → Type 0
   MembersTaken depth keys (no_members s) = ⊤
-  MembersTaken depth keys (member s s' k r r' t ms) =
-      (has_key (string_content k) keys ≡ false) × IsTaken depth t × MembersTaken depth (keys ++ string_content k ∷ []) ms
+  MembersTaken depth keys (member gap key t ms) =
+      (has_key (string_content key.chars) keys ≡ false) × IsTaken depth t
+      × MembersTaken depth (keys ++ string_content key.chars ∷ []) ms
 
 -- the text is a JSON text in which nothing is refused, and this is its value
 abbrev pub HasValue : List ℕ → OrderedJson → Type 0

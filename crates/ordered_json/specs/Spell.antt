@@ -36,7 +36,9 @@ abbrev pub four_bytes : ℕ → ℕ → ℕ → ℕ → ℕ
 four_bytes a b c d = ((a % 8 * 64 + b % 64) * 64 + c % 64) * 64 + d % 64
 
 abbrev pub hex_value : HexUnit → ℕ
-hex_value u = ((digit_value u.first * 16 + digit_value u.second) * 16 + digit_value u.third) * 16 + digit_value u.fourth
+hex_value u =
+    ((digit_value u.first * 16 + digit_value u.second) * 16 + digit_value u.third) * 16
+    + digit_value u.fourth
 
 abbrev pub hex_unit : ℕ → ℕ → ℕ → ℕ → HexUnit
 hex_unit a b c d = record { first = a; second = b; third = c; fourth = d }
@@ -51,7 +53,9 @@ unit_end u = cond (is_high_surrogate (hex_value u)) (spelled.More (at.High u)) (
 
 -- four digits after a high surrogate's
 abbrev pub pair_end : HexUnit → HexUnit → Spelled
-pair_end u v = cond (is_high_surrogate (hex_value u) && is_low_surrogate (hex_value v)) (char_of (pair_value (hex_value u) (hex_value v))) spelled.Bad
+pair_end u v =
+    cond (is_high_surrogate (hex_value u) && is_low_surrogate (hex_value v))
+    (char_of (pair_value (hex_value u) (hex_value v))) spelled.Bad
 
 -- whether two digits begin a code unit that is no low surrogate
 abbrev pub is_no_low : ℕ → ℕ → Bool
@@ -72,7 +76,9 @@ spell at.Between b =
     (cond (nat_lt b space) spelled.Bad
     (cond (nat_lt b 128) (spelled.Char b)
     (cond (is_lead b) (spelled.More (at.Lead1 b)) spelled.Bad))))
-spell at.Backslash b = cond (b == small_u) (spelled.More at.Hex0) (cond (escape_value b == 0) spelled.Bad (spelled.Char (escape_value b)))
+spell at.Backslash b =
+    cond (b == small_u) (spelled.More at.Hex0)
+    (cond (escape_value b == 0) spelled.Bad (spelled.Char (escape_value b)))
 spell at.Hex0 b = cond (is_digit b 16) (spelled.More (at.Hex1 b)) spelled.Bad
 spell (at.Hex1 a) b = cond (is_no_low a b) (spelled.More (at.Hex2 a b)) spelled.Bad
 spell (at.Hex2 a b) c = cond (is_digit c 16) (spelled.More (at.Hex3 a b c)) spelled.Bad
@@ -80,7 +86,8 @@ spell (at.Hex3 a b c) d = cond (is_digit d 16) (unit_end (hex_unit a b c d)) spe
 spell (at.High u) b = cond (b == backslash) (spelled.More (at.HighBackslash u)) spelled.Bad
 spell (at.HighBackslash u) b = cond (b == small_u) (spelled.More (at.Low0 u)) spelled.Bad
 spell (at.Low0 u) b = cond (digit_value b == 13) (spelled.More (at.Low1 u b)) spelled.Bad
-spell (at.Low1 u a) b = cond (is_digit b 16 && nat_le 12 (digit_value b)) (spelled.More (at.Low2 u a b)) spelled.Bad
+spell (at.Low1 u a) b =
+    cond (is_digit b 16 && nat_le 12 (digit_value b)) (spelled.More (at.Low2 u a b)) spelled.Bad
 spell (at.Low2 u a b) c = cond (is_digit c 16) (spelled.More (at.Low3 u a b c)) spelled.Bad
 spell (at.Low3 u a b c) d = cond (is_digit d 16) (pair_end u (hex_unit a b c d)) spelled.Bad
 spell (at.Lead1 a) b = cond (is_second a b) (after_second a b) spelled.Bad

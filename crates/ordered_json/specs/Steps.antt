@@ -41,8 +41,8 @@ abbrev pub start : Reader
 start = record { levels = []; mode = mode.Value; content = []; root = None }
 
 -- the reader in another mode
-abbrev pub go : Mode → Reader → Reading
-go m r = Ok (record r { mode = m })
+abbrev pub to_mode : Mode → Reader → Reading
+to_mode m r = Ok (record r { mode = m })
 
 abbrev pub and_then : Reading → (Reader → Reading) → Reading
 and_then (Ok r) f = f r
@@ -77,17 +77,18 @@ text_mode place is_key = mode.Text (open_text place is_key at.Between)
 abbrev pub with_value : ℕ → OrderedJson → Level → Result Level JsonFault
 with_value place json (level.List p items) = Ok (level.List p (items ++ json ∷ []))
 with_value place json (level.Object p members) = Err (Syntax place)
-with_value place json (level.Member p members key key_place) = Ok (level.Object p (members ++ member_of key key_place json ∷ []))
+with_value place json (level.Member p members key key_place) =
+    Ok (level.Object p (members ++ member_of key key_place json ∷ []))
 
 -- the levels with a changed innermost one
-abbrev pub replaced : Reader → List Level → Result Level JsonFault → Reading
-replaced r ls (Ok l) = Ok (record r { levels = l ∷ ls; mode = mode.After })
-replaced r ls (Err fault) = Err fault
+abbrev pub with_innermost : Reader → List Level → Result Level JsonFault → Reading
+with_innermost r ls (Ok l) = Ok (record r { levels = l ∷ ls; mode = mode.After })
+with_innermost r ls (Err fault) = Err fault
 
 -- a value is read
 abbrev pub complete_in : ℕ → OrderedJson → Reader → List Level → Reading
 complete_in place json r [] = Ok (record r { mode = mode.After; root = Some json })
-complete_in place json r (l ∷ ls) = replaced r ls (with_value place json l)
+complete_in place json r (l ∷ ls) = with_innermost r ls (with_value place json l)
 
 unfoldable pub complete : ℕ → OrderedJson → Reader → Reading
 complete place json r = complete_in place json r r.levels
@@ -95,12 +96,14 @@ complete place json r = complete_in place json r r.levels
 -- a bracket opens a level
 abbrev pub open_level : ℕ → Level → Mode → Reader → Reading
 open_level place l m r =
-    cond (nat_lt (length r.levels) MAX_LEVELS) (Ok (record r { levels = l ∷ r.levels; mode = m })) (Err (TooDeep place))
+    cond (nat_lt (length r.levels) MAX_LEVELS) (Ok (record r { levels = l ∷ r.levels; mode = m }))
+    (Err (TooDeep place))
 
 -- a bracket closes the innermost level
 abbrev pub close_list_in : ℕ → Reader → List Level → Reading
 close_list_in place r [] = Err (Syntax place)
-close_list_in place r (level.List p items ∷ ls) = complete place (a_list p items) (record r { levels = ls })
+close_list_in place r (level.List p items ∷ ls) =
+    complete place (a_list p items) (record r { levels = ls })
 close_list_in place r (level.Object p members ∷ ls) = Err (Syntax place)
 close_list_in place r (level.Member p members key key_place ∷ ls) = Err (Syntax place)
 
@@ -110,7 +113,8 @@ close_list place r = close_list_in place r r.levels
 abbrev pub close_object_in : ℕ → Reader → List Level → Reading
 close_object_in place r [] = Err (Syntax place)
 close_object_in place r (level.List p items ∷ ls) = Err (Syntax place)
-close_object_in place r (level.Object p members ∷ ls) = complete place (an_object p members) (record r { levels = ls })
+close_object_in place r (level.Object p members ∷ ls) =
+    complete place (an_object p members) (record r { levels = ls })
 close_object_in place r (level.Member p members key key_place ∷ ls) = Err (Syntax place)
 
 unfoldable pub close_object : ℕ → Reader → Reading
@@ -124,8 +128,8 @@ awaits_of (level.Object p members ∷ ls) = awaits.Key
 awaits_of (level.Member p members key key_place ∷ ls) = awaits.Nothing
 
 abbrev pub take_comma_in : ℕ → Reader → Awaits → Reading
-take_comma_in place r awaits.Value = go mode.Value r
-take_comma_in place r awaits.Key = go mode.Key r
+take_comma_in place r awaits.Value = to_mode mode.Value r
+take_comma_in place r awaits.Key = to_mode mode.Key r
 take_comma_in place r awaits.Nothing = Err (Syntax place)
 
 -- a comma
@@ -157,31 +161,35 @@ scalar_mode place b =
     (cond (b == hyphen) (Ok (mode.Minus place))
     (cond (is_decimal b) (Ok (number_mode place false b)) (Err (Syntax place))))))
 
-abbrev pub go_if : Result Mode JsonFault → Reader → Reading
-go_if (Ok m) r = go m r
-go_if (Err fault) r = Err fault
+abbrev pub to_mode_if : Result Mode JsonFault → Reader → Reading
+to_mode_if (Ok m) r = to_mode m r
+to_mode_if (Err fault) r = Err fault
 
 -- the first byte of a value
 unfoldable pub begin_value : ℕ → ℕ → Reader → Reading
 begin_value place b r =
-    cond (b == quotation_mark) (go (text_mode place false) r)
+    cond (b == quotation_mark) (to_mode (text_mode place false) r)
     (cond (b == opening_bracket) (open_level place (level.List place []) mode.FirstItem r)
-    (cond (b == opening_brace) (open_level place (level.Object place []) mode.FirstKey r) (go_if (scalar_mode place b) r)))
+    (cond (b == opening_brace) (open_level place (level.Object place []) mode.FirstKey r)
+    (to_mode_if (scalar_mode place b) r)))
 
 -- the first byte of a key
 abbrev pub begin_key : ℕ → ℕ → Reader → Reading
-begin_key place b r = cond (b == quotation_mark) (go (text_mode place true) r) (Err (Syntax place))
+begin_key place b r = cond (b == quotation_mark) (to_mode (text_mode place true) r) (Err (Syntax place))
 
 -- a byte between tokens
 abbrev pub between_in : ℕ → ℕ → Reader → Mode → Reading
 between_in place b r mode.Value = begin_value place b r
-between_in place b r mode.FirstItem = cond (b == closing_bracket) (close_list place r) (begin_value place b r)
-between_in place b r mode.FirstKey = cond (b == closing_brace) (close_object place r) (begin_key place b r)
+between_in place b r mode.FirstItem =
+    cond (b == closing_bracket) (close_list place r) (begin_value place b r)
+between_in place b r mode.FirstKey =
+    cond (b == closing_brace) (close_object place r) (begin_key place b r)
 between_in place b r mode.Key = begin_key place b r
-between_in place b r mode.Colon = cond (b == colon) (go mode.Value r) (Err (Syntax place))
+between_in place b r mode.Colon = cond (b == colon) (to_mode mode.Value r) (Err (Syntax place))
 between_in place b r mode.After =
     cond (b == comma) (take_comma place r)
-    (cond (b == closing_bracket) (close_list place r) (cond (b == closing_brace) (close_object place r) (Err (Syntax place))))
+    (cond (b == closing_bracket) (close_list place r)
+    (cond (b == closing_brace) (close_object place r) (Err (Syntax place))))
 between_in place b r (mode.Name name) = Err (Syntax place)
 between_in place b r (mode.Minus p) = Err (Syntax place)
 between_in place b r (mode.Zero number) = Err (Syntax place)
@@ -195,13 +203,15 @@ between place b r = cond (is_blank b) (Ok r) (between_in place b r r.mode)
 -- a number is at its end
 unfoldable pub end_number : ℕ → OpenNumber → Reader → Reading
 end_number place number r =
-    cond (fits number.minus number.magnitude) (complete place (Int number.place (int_value number.minus number.magnitude)) r)
+    cond (fits number.minus number.magnitude)
+    (complete place (Int number.place (int_value number.minus number.magnitude)) r)
     (Err (Range number.place))
 
 -- the byte after a number's digits
 unfoldable pub after_digits : ℕ → OpenNumber → ℕ → Reader → Reading
 after_digits place number b r =
-    cond (is_mark b) (Err (Fraction number.place)) (and_then (end_number place number r) (between place b))
+    cond (is_mark b) (Err (Fraction number.place))
+    (and_then (end_number place number r) (between place b))
 
 -- a magnitude with one more digit, and the greatest one of 64 bits where that is more
 abbrev pub with_digit : ℕ → ℕ → ℕ
@@ -209,18 +219,20 @@ with_digit n b = min (min (n * 10) (2 ^ 64 - 1) + (b - digit_zero)) (2 ^ 64 - 1)
 
 unfoldable pub in_digits : ℕ → OpenNumber → ℕ → Reader → Reading
 in_digits place number b r =
-    cond (is_decimal b) (go (mode.Digits (open_number number.place number.minus (with_digit number.magnitude b))) r)
+    cond (is_decimal b)
+    (to_mode (mode.Digits (open_number number.place number.minus (with_digit number.magnitude b))) r)
     (after_digits place number b r)
 
 unfoldable pub after_minus : ℕ → ℕ → ℕ → Reader → Reading
-after_minus place p b r = cond (is_decimal b) (go (number_mode p true b) r) (Err (Syntax place))
+after_minus place p b r = cond (is_decimal b) (to_mode (number_mode p true b) r) (Err (Syntax place))
 
 -- ---- literal names
 unfoldable pub in_name : ℕ → OpenName → ℕ → Reader → Reading
 in_name place name b r =
     cond (nat_lt name.read (length (literal_letters name.name)) && (b == letter_at name.name name.read))
-    (cond (name.read + 1 == length (literal_letters name.name)) (complete place (literal_value name.place name.name) r)
-    (go (mode.Name (open_name name.place name.name (name.read + 1))) r))
+    (cond (name.read + 1 == length (literal_letters name.name))
+    (complete place (literal_value name.place name.name) r)
+    (to_mode (mode.Name (open_name name.place name.name (name.read + 1))) r))
     (Err (Syntax place))
 
 -- ---- strings
@@ -239,11 +251,12 @@ end_key place p r = end_key_in place p r r.levels
 -- a string is read
 unfoldable pub end_text : ℕ → OpenText → Reader → Reading
 end_text place text r =
-    cond text.is_key (end_key place text.place r) (complete place (a_text text.place r.content) (record r { content = [] }))
+    cond text.is_key (end_key place text.place r)
+    (complete place (a_text text.place r.content) (record r { content = [] }))
 
 -- what a byte makes of the string
 abbrev pub spelled_in : ℕ → OpenText → Reader → Spelled → Reading
-spelled_in place text r (spelled.More s) = go (mode.Text (open_text text.place text.is_key s)) r
+spelled_in place text r (spelled.More s) = to_mode (mode.Text (open_text text.place text.is_key s)) r
 spelled_in place text r (spelled.Char c) =
     Ok (record r { content = r.content ++ encode_utf8 c; mode = text_mode text.place text.is_key })
 spelled_in place text r spelled.End = end_text place text r

@@ -24,8 +24,8 @@ pub fn is_mark(byte: u8) -> bool
     byte == b'.' || byte == b'e' || byte == b'E'
 }
 
-/// The code of the character that a backslash and the byte stand for, and 0 where they stand for none
-/// (RFC 8259, section 7).
+/// The code of the character that a backslash and the byte stand for, and 0 where they stand for
+/// none (RFC 8259, section 7).
 pub fn escape_value(byte: u8) -> u8
     ensures { result ≡ grammar.escape_value byte }
 {

@@ -3,7 +3,7 @@ ghost use Rattle.std.specs.Prelude.{◌≡◌};
 ghost use Rattle.ordered_json.specs.declared.fault.JsonFault.TheVariants.{Memory};
 ghost use Rattle.ordered_json.specs.Words.{fault_place};
 
-use crate::MAX_TEXT;
+use crate::{MAX_LEVELS, MAX_TEXT};
 use std::alloc::AllocError;
 use thiserror::Error;
 
@@ -25,10 +25,10 @@ pub enum JsonFault {
     #[error("the number at byte {0} does not fit 64 bits")]
     Range(usize),
     /// The bracket that opens a level more than `MAX_LEVELS`.
-    #[error("the bracket at byte {0} opens a 65th level")]
+    #[error("the bracket at byte {0} opens more than {max} levels", max = MAX_LEVELS)]
     TooDeep(usize),
     /// A text of more than `MAX_TEXT` bytes.
-    #[error("the text is longer than 1048576 bytes")]
+    #[error("the text is longer than {max} bytes", max = MAX_TEXT)]
     TooLong,
     /// Memory ran out.
     #[error("out of memory")]

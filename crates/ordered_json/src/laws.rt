@@ -1,5 +1,5 @@
-//! Laws of the definitions that the contract of `read` cites: with them a caller may conclude that the
-//! answer is the only one.
+//! Laws of the definitions that the contract of `read` cites: with them a caller may conclude that
+//! the answer is the only one.
 ghost use Rattle.ordered_json.specs.Laws.{MeaningIsUnique, MeaningExcludesFault, FaultIsUnique};
 
 /// A text has at most one meaning.

@@ -1,5 +1,5 @@
-//! The values of an object's members by their keys. Each call looks at the members in their order, up
-//! to the one with the key.
+//! The values of an object's members by their keys. Each call looks at the members in their order,
+//! up to the one with the key.
 ghost use Rattle.std.specs.Prelude.{◌≡◌, map, find, option_map};
 ghost use Rattle.std.specs.Option.{option_copied};
 ghost use Rattle.std.specs.Str.{bytes_eq};

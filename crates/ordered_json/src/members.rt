@@ -32,7 +32,8 @@ impl Model for OpenMembers {
 
     ghost view = { λ m. m.members };
 
-    ghost invariant = { λ m. (key : List ℕ) → contains_text m.keys key ≡ has_key key (map key_of m.members) };
+    ghost invariant = { λ m. (key : List ℕ)
+        → contains_text m.keys key ≡ has_key key (map key_of m.members) };
 }
 
 impl OpenMembers {
@@ -46,7 +47,8 @@ impl OpenMembers {
         }
     }
 
-    /// Whether one of the members has the key, in time that grows with the logarithm of their number.
+    /// Whether one of the members has the key, in time that grows with the logarithm of their
+    /// number.
     pub fn has_key(&self, key: &str) -> bool
         ensures { result ≡ has_key key.now (map key_of self.now) }
     {

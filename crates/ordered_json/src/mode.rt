@@ -16,7 +16,8 @@ pub enum Mode {
     Key,
     /// The colon after a key.
     Colon,
-    /// A comma or the closing bracket of the innermost level, or the end of the text where none is open.
+    /// A comma or the closing bracket of the innermost level, or the end of the text where none is
+    /// open.
     After,
     /// The next letter of a literal name.
     Name(OpenName),

@@ -1,4 +1,5 @@
-use crate::{JsonFault, read};
+//! What no clause says: texts from outside, printed faults, and each call once.
+use crate::{JsonFault, get, get_list, get_object, get_text, read};
 use std::test::Fail;
 
 /// Texts and their first faults. Levels are tried apart.
@@ -103,6 +104,27 @@ fn reads_values_with_their_places(rt: HostRuntime) -> Result<(), Fail> {
     Ok(())
 }
 
+#[test]
+fn takes_values_apart(rt: HostRuntime) -> Result<(), Fail> {
+    let json = read(rt.alloc(), b"{\"a\":[null,true,-7],\"b\":{\"c\":\"d\"}}")?;
+    assert!(rt; json.is_object() && !json.is_list());
+    assert!(rt; json.as_object_of(&["a"]).is_none());
+    let members = json.as_object_of(&["b", "a"]).ok_or("no object")?;
+    assert!(rt; get(members, "c").is_none());
+    assert_eq!(rt; members.len(), 2);
+    assert_eq!(rt; members[1].key_place, 20);
+    let items = get_list(members, "a").ok_or("no list")?;
+    assert_eq!(rt; items.len(), 3);
+    assert!(rt; items[0].is_null() && items[1].is_bool() && items[2].is_int());
+    assert_eq!(rt; items[1].as_bool(), Some(true));
+    assert_eq!(rt; items[2].as_int(), Some(-7));
+    let inner = get_object(members, "b").ok_or("no object")?;
+    let text = get_text(inner, "c").ok_or("no text")?;
+    assert_eq!(rt; text.as_str(), "d");
+    assert!(rt; get(inner, "c").is_some_and(|value| value.is_text()));
+    Ok(())
+}
+
 /// The examples of RFC 8259, section 13: the first is taken, the second has fractions.
 #[test]
 fn reads_the_examples_of_the_standard(rt: HostRuntime) -> Result<(), Fail> {
@@ -165,7 +187,7 @@ fn faults_are_printed_with_their_places(rt: HostRuntime) -> Result<(), Fail> {
         ),
         (
             JsonFault::TooDeep(64),
-            "the bracket at byte 64 opens a 65th level",
+            "the bracket at byte 64 opens more than 64 levels",
         ),
         (JsonFault::TooLong, "the text is longer than 1048576 bytes"),
         (JsonFault::Memory, "out of memory"),

@@ -1,7 +1,7 @@
 -- Both meanings are the reader's answer.
 use Rattle.std.proofs.Common.{◌≡◌, Ok, sym, ◌∙◌}
-use Rattle.ordered_json.proofs.Accept.{Answer}
-use Rattle.ordered_json.proofs.Verdict.{reader_answer-value}
+use Rattle.ordered_json.proofs.LiteralLemmas.{Answer}
+use Rattle.ordered_json.proofs.AnswerLemmas.{reader_answer-value}
 use Rattle.ordered_json.proofs.laws.meaning_is_unique.Goals as goal
 
 pub returns : goal.returns

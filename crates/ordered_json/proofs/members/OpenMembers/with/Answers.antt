@@ -5,7 +5,7 @@ use Rattle.std.specs.Str.{bytes_eq}
 use Rattle.std.specs.String.{string_bytes}
 use Rattle.ordered_json.specs.Words.{key_of, member_of}
 use Rattle.ordered_json.specs.Meaning.{has_key}
-use Rattle.ordered_json.proofs.Keys.{has_key-more, key_of-member_of}
+use Rattle.ordered_json.proofs.KeyLemmas.{has_key-more, key_of-member_of}
 use Rattle.ordered_json.proofs.members.OpenMembers.with.Goals as goal
 
 pub invariant_of-result : goal.invariant_of-result

@@ -13,7 +13,7 @@ use Rattle.ordered_json.specs.Grammar.{Char, plain, escaped, coded, paired, Code
 use Rattle.ordered_json.specs.Meaning.{char_value, pair_value}
 use Rattle.ordered_json.specs.declared.mode.Unit.{Unit as HexUnit}
 use Rattle.ordered_json.specs.Spell.{spell, is_no_low, char_of, two_bytes, three_bytes, four_bytes, is_second, is_tail, is_lead, hex_unit, hex_value, unit_end, pair_end, after_second, after_third}
-use Rattle.ordered_json.proofs.Strings.{is_below, is_above, below, above, and_true, digit_below, encode_one, encode_two, encode_three, encode_four, scalar_char, unit_scalar, pair_scalar}
+use Rattle.ordered_json.proofs.StringLemmas.{is_below, is_above, below, above, and_true, digit_below, encode_one, encode_two, encode_three, encode_four, scalar_char, unit_scalar, pair_scalar}
 
 -- the bytes that are read of a character
 abbrev pub unit_bytes : HexUnit → List ℕ

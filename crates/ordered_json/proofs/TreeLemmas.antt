@@ -12,28 +12,28 @@ use Rattle.ordered_json.specs.declared.level.Level.{Level}
 use Rattle.ordered_json.specs.declared.level.Level.TheVariants as level
 use Rattle.ordered_json.specs.declared.mode.Mode.TheVariants as mode
 use Rattle.ordered_json.specs.Words.{key_of, member_of}
-use Rattle.ordered_json.specs.Grammar.{Char, AreChars, IsSpace, signed, print_string, Tree, null, boolean, number, string, array, object, Elements, no_elements, element, Members, no_members, member, print, print_elements, print_members, lead, key_end, IsTree, AreElements, AreMembers, IsPrinted}
+use Rattle.ordered_json.specs.Grammar.{IsSpace, with_minus, print_string, Tree, null, boolean, number, string, array, object, Elements, no_elements, element, Members, no_members, member, print, print_elements, print_members, print_separator, print_colon, Gap, Key, IsGap, IsKey, IsTree, AreElements, AreMembers, IsPrinted}
 use Rattle.ordered_json.specs.Meaning.{magnitude, fits, string_content, value_at, items_at, members_at, has_key, IsTaken, ElementsTaken, MembersTaken}
 use Rattle.ordered_json.specs.Faults.{is_mark, EndsNumber}
 use Rattle.ordered_json.specs.Steps.{take_byte, settle, reader_answer, start}
-use Rattle.ordered_json.proofs.Keys.{key_of-member_of}
-use Rattle.ordered_json.proofs.Runs.{Answers, by_step, by_same, by_place, by_bytes, by_fault}
-use Rattle.ordered_json.proofs.States.{state, Ready, finished, awaiting}
-use Rattle.ordered_json.proofs.Accept.{Answer, Waits, awaiting_waits, spaces, reads_null, reads_true, reads_false}
-use Rattle.ordered_json.proofs.Numbers.{number_read, number_ends, number_too_large, number_marked}
-use Rattle.ordered_json.proofs.Trees.{IsRefusal, Reads, string_read, key_read, key_refused, comma_of, ends_blank, ends_elements, ends_members, list_mode, list_waits, object_mode, object_waits, list_closes, object_closes, list_lead, object_lead, colon_read, list_opens, object_opens, list_too_deep, object_too_deep}
+use Rattle.ordered_json.proofs.KeyLemmas.{key_of-member_of}
+use Rattle.ordered_json.proofs.RunLemmas.{Answers, by_step, by_same, by_place, by_bytes, by_fault}
+use Rattle.ordered_json.proofs.StateLemmas.{state, Ready, finished, awaiting}
+use Rattle.ordered_json.proofs.LiteralLemmas.{Answer, Waits, awaiting_waits, spaces, reads_null, reads_true, reads_false}
+use Rattle.ordered_json.proofs.NumberLemmas.{number_read, number_ends, number_too_large, number_marked}
+use Rattle.ordered_json.proofs.TokenLemmas.{IsRefusal, Reads, string_read, key_read, key_refused, comma_of, ends_blank, ends_elements, ends_members, list_mode, list_waits, object_mode, object_waits, list_closes, object_closes, list_lead, object_lead, colon_read, list_opens, object_opens, list_too_deep, object_too_deep}
 
 -- ---- numbers
 plain_number : (f minus : Bool) (ds : List ℕ) (p : ℕ) (rest : List ℕ) (ls : List Level) (o : Option OrderedJson) (x : Answer) (fit : Bool) → fits minus (magnitude ds) ≡ fit → IsTree (number minus ds [] []) → Ready ls → EndsNumber rest → Answers (p + length (print (number minus ds [] []))) rest (Ok (finished (value_at p (number minus ds [] [])) ls o)) x → Reads (IsTaken (length ls) (number minus ds [] [])) p (print (number minus ds [] []) ++ rest) (Ok (state (awaiting f) ls o)) x
 plain_number f minus ds p rest ls o x true e h r ends a =
-    inl (by_bytes (append_assoc (signed minus ds) [] rest)
-    (number_read f minus ds h.0 (λ m is. number_ends rest is r e ends (by_place {q = p + length (signed minus ds ++ [])} (omega (arith, ap length (append-nil (signed minus ds)))) a))))
+    inl (by_bytes (append_assoc (with_minus minus ds) [] rest)
+    (number_read f minus ds h.0 (λ m is. number_ends rest is r e ends (by_place {q = p + length (with_minus minus ds ++ [])} (omega (arith, ap length (append-nil (with_minus minus ds)))) a))))
 plain_number f minus ds p rest ls o x false e h r ends a =
     inr (
       λ taken. (let clash : true ≡ false = sym taken.2 ∙ e in cc),
       Range p,
       tt,
-      by_bytes (append_assoc (signed minus ds) [] rest) (number_read f minus ds h.0 (λ m is. number_too_large rest is e ends)),
+      by_bytes (append_assoc (with_minus minus ds) [] rest) (number_read f minus ds h.0 (λ m is. number_too_large rest is e ends)),
     )
 
 is_mark_at : (b c : ℕ) → b ≡ c → is_mark c ≡ true → is_mark b ≡ true
@@ -46,14 +46,14 @@ number_tree f minus ds [] (b ∷ bs) p rest ls o x h r ends a =
       λ taken. (let none : b ∷ bs ≡ [] = taken.1 in cc),
       Fraction p,
       tt,
-      by_bytes (append_assoc (signed minus ds) (b ∷ bs) rest) (number_read f minus ds h.0 (λ m is. number_marked is (elim h.2.0 as (λ _. is_mark b ≡ true) [ inl e ↦ is_mark_at b 101 e refl | inr e ↦ is_mark_at b 69 e refl ]))),
+      by_bytes (append_assoc (with_minus minus ds) (b ∷ bs) rest) (number_read f minus ds h.0 (λ m is. number_marked is (elim h.2.0 as (λ _. is_mark b ≡ true) [ inl e ↦ is_mark_at b 101 e refl | inr e ↦ is_mark_at b 69 e refl ]))),
     )
 number_tree f minus ds (b ∷ bs) exponent p rest ls o x h r ends a =
     inr (
       λ taken. (let none : b ∷ bs ≡ [] = taken.0 in cc),
       Fraction p,
       tt,
-      by_bytes (append_assoc (signed minus ds) (b ∷ (bs ++ exponent)) rest) (number_read f minus ds h.0 (λ m is. number_marked is (is_mark_at b 46 h.1.0 refl))),
+      by_bytes (append_assoc (with_minus minus ds) (b ∷ (bs ++ exponent)) rest) (number_read f minus ds h.0 (λ m is. number_marked is (is_mark_at b 46 h.1.0 refl))),
     )
 
 -- ---- arrays
@@ -71,20 +71,20 @@ element_bytes front body back rest = append_assoc front (body ++ back) rest ∙ 
 element_length : (front body back : List ℕ) → length (front ++ (body ++ back)) ≡ length front + length body + length back
 element_length front body back = omega (arith, length-append front (body ++ back), length-append body back)
 
-element_from : (f : Bool) (s s' : List ℕ) (t : Tree) (es : Elements) (p : ℕ) (rest : List ℕ) (q : ℕ) (items : List OrderedJson) (ls : List Level) (o : Option OrderedJson) (x : Answer) → IsSpace s → IsSpace s'
-    → ((y : Answer) → Answers (p + length (lead s (comma_of f) s') + length (print t)) (print_elements (44 ∷ []) es ++ rest) (Ok (state mode.After (level.List q (items ++ value_at (p + length (lead s (comma_of f) s')) t ∷ []) ∷ ls) o)) y → Reads (IsTaken (suc (length ls)) t) (p + length (lead s (comma_of f) s')) (print t ++ (print_elements (44 ∷ []) es ++ rest)) (Ok (state (awaiting f) (level.List q items ∷ ls) o)) y)
-    → Reads (ElementsTaken (suc (length ls)) es) (p + length (lead s (comma_of f) s') + length (print t)) (print_elements (44 ∷ []) es ++ rest) (Ok (state mode.After (level.List q (items ++ value_at (p + length (lead s (comma_of f) s')) t ∷ []) ∷ ls) o)) x
-    → Reads (ElementsTaken (suc (length ls)) (element s s' t es)) p (print_elements (comma_of f) (element s s' t es) ++ rest) (Ok (state (list_mode f) (level.List q items ∷ ls) o)) x
-element_from f s s' t es p rest q items ls o x h h' tree (inl a) = led (tree x a)
+element_from : (f : Bool) (g : Gap) (t : Tree) (es : Elements) (p : ℕ) (rest : List ℕ) (q : ℕ) (items : List OrderedJson) (ls : List Level) (o : Option OrderedJson) (x : Answer) → IsGap g
+    → ((y : Answer) → Answers (p + length (print_separator g (comma_of f)) + length (print t)) (print_elements (44 ∷ []) es ++ rest) (Ok (state mode.After (level.List q (items ++ value_at (p + length (print_separator g (comma_of f))) t ∷ []) ∷ ls) o)) y → Reads (IsTaken (suc (length ls)) t) (p + length (print_separator g (comma_of f))) (print t ++ (print_elements (44 ∷ []) es ++ rest)) (Ok (state (awaiting f) (level.List q items ∷ ls) o)) y)
+    → Reads (ElementsTaken (suc (length ls)) es) (p + length (print_separator g (comma_of f)) + length (print t)) (print_elements (44 ∷ []) es ++ rest) (Ok (state mode.After (level.List q (items ++ value_at (p + length (print_separator g (comma_of f))) t ∷ []) ∷ ls) o)) x
+    → Reads (ElementsTaken (suc (length ls)) (element g t es)) p (print_elements (comma_of f) (element g t es) ++ rest) (Ok (state (list_mode f) (level.List q items ∷ ls) o)) x
+element_from f g t es p rest q items ls o x h tree (inl a) = led (tree x a)
   where
-    led : Reads (IsTaken (suc (length ls)) t) (p + length (lead s (comma_of f) s')) (print t ++ (print_elements (44 ∷ []) es ++ rest)) (Ok (state (awaiting f) (level.List q items ∷ ls) o)) x → Reads (ElementsTaken (suc (length ls)) (element s s' t es)) p (print_elements (comma_of f) (element s s' t es) ++ rest) (Ok (state (list_mode f) (level.List q items ∷ ls) o)) x
-    led (inl b) = inl (by_bytes (element_bytes (lead s (comma_of f) s') (print t) (print_elements (44 ∷ []) es) rest) (list_lead f s s' h h' b))
-    led (inr b) = inr (λ taken. b.0 taken.0, b.1, b.2, by_bytes (element_bytes (lead s (comma_of f) s') (print t) (print_elements (44 ∷ []) es) rest) (list_lead f s s' h h' b.3))
-element_from f s s' t es p rest q items ls o x h h' tree (inr c) = led (tree (Err c.1) c.3)
+    led : Reads (IsTaken (suc (length ls)) t) (p + length (print_separator g (comma_of f))) (print t ++ (print_elements (44 ∷ []) es ++ rest)) (Ok (state (awaiting f) (level.List q items ∷ ls) o)) x → Reads (ElementsTaken (suc (length ls)) (element g t es)) p (print_elements (comma_of f) (element g t es) ++ rest) (Ok (state (list_mode f) (level.List q items ∷ ls) o)) x
+    led (inl b) = inl (by_bytes (element_bytes (print_separator g (comma_of f)) (print t) (print_elements (44 ∷ []) es) rest) (list_lead f g h b))
+    led (inr b) = inr (λ taken. b.0 taken.0, b.1, b.2, by_bytes (element_bytes (print_separator g (comma_of f)) (print t) (print_elements (44 ∷ []) es) rest) (list_lead f g h b.3))
+element_from f g t es p rest q items ls o x h tree (inr c) = led (tree (Err c.1) c.3)
   where
-    led : Reads (IsTaken (suc (length ls)) t) (p + length (lead s (comma_of f) s')) (print t ++ (print_elements (44 ∷ []) es ++ rest)) (Ok (state (awaiting f) (level.List q items ∷ ls) o)) (Err c.1) → Reads (ElementsTaken (suc (length ls)) (element s s' t es)) p (print_elements (comma_of f) (element s s' t es) ++ rest) (Ok (state (list_mode f) (level.List q items ∷ ls) o)) x
-    led (inl b) = inr (λ taken. c.0 taken.1, c.1, c.2, by_bytes (element_bytes (lead s (comma_of f) s') (print t) (print_elements (44 ∷ []) es) rest) (list_lead f s s' h h' b))
-    led (inr b) = inr (λ taken. b.0 taken.0, b.1, b.2, by_bytes (element_bytes (lead s (comma_of f) s') (print t) (print_elements (44 ∷ []) es) rest) (list_lead f s s' h h' b.3))
+    led : Reads (IsTaken (suc (length ls)) t) (p + length (print_separator g (comma_of f))) (print t ++ (print_elements (44 ∷ []) es ++ rest)) (Ok (state (awaiting f) (level.List q items ∷ ls) o)) (Err c.1) → Reads (ElementsTaken (suc (length ls)) (element g t es)) p (print_elements (comma_of f) (element g t es) ++ rest) (Ok (state (list_mode f) (level.List q items ∷ ls) o)) x
+    led (inl b) = inr (λ taken. c.0 taken.1, c.1, c.2, by_bytes (element_bytes (print_separator g (comma_of f)) (print t) (print_elements (44 ∷ []) es) rest) (list_lead f g h b))
+    led (inr b) = inr (λ taken. b.0 taken.0, b.1, b.2, by_bytes (element_bytes (print_separator g (comma_of f)) (print t) (print_elements (44 ∷ []) es) rest) (list_lead f g h b.3))
 
 -- ---- objects
 object_from : (f : Bool) (ms : Members) (p : ℕ) (rest : List ℕ) (ls : List Level) (o : Option OrderedJson) (x : Answer) (room : Bool) → nat_lt (length ls) MAX_LEVELS ≡ room → Reads (MembersTaken (suc (length ls)) [] ms) (p + 1) (print_members [] ms ++ rest) (Ok (state mode.FirstKey (level.Object p [] ∷ ls) o)) x → Reads (IsTaken (length ls) (object ms)) p (print (object ms) ++ rest) (Ok (state (awaiting f) ls o)) x
@@ -102,37 +102,37 @@ member_length : (front key gap body back : List ℕ) → length (front ++ (key +
 member_length front key gap body back = omega (arith, length-append front (key ++ (gap ++ (body ++ back))), length-append key (gap ++ (body ++ back)), length-append gap (body ++ back), length-append body back)
 
 -- the places of a member's key and value, and of what follows
-abbrev key_at : Bool → ℕ → List ℕ → List ℕ → ℕ
-key_at f p s s' = p + length (lead s (comma_of f) s')
+abbrev key_at : Bool → ℕ → Gap → ℕ
+key_at f p g = p + length (print_separator g (comma_of f))
 
-abbrev value_from : Bool → ℕ → List ℕ → List ℕ → List Char → List ℕ → List ℕ → ℕ
-value_from f p s s' k r r' = key_at f p s s' + length (print_string k ++ key_end r r')
+abbrev value_from : Bool → ℕ → Gap → Key → ℕ
+value_from f p g k = key_at f p g + length (print_string k.chars ++ print_colon k.gap)
 
-member_from : (f : Bool) (s s' : List ℕ) (k : List Char) (r r' : List ℕ) (t : Tree) (ms : Members) (p : ℕ) (rest : List ℕ) (q : ℕ) (before : List Member) (ls : List Level) (o : Option OrderedJson) (x : Answer) (known : Bool) → has_key (string_content k) (map key_of before) ≡ known → IsSpace s → IsSpace s' → AreChars k → IsSpace r → IsSpace r'
-    → ((y : Answer) → Answers (value_from f p s s' k r r' + length (print t)) (print_members (44 ∷ []) ms ++ rest) (Ok (state mode.After (level.Object q (before ++ member_of (string_content k) (key_at f p s s') (value_at (value_from f p s s' k r r') t) ∷ []) ∷ ls) o)) y → Reads (IsTaken (suc (length ls)) t) (value_from f p s s' k r r') (print t ++ (print_members (44 ∷ []) ms ++ rest)) (Ok (state mode.Value (level.Member q before (string_content k) (key_at f p s s') ∷ ls) o)) y)
-    → Reads (MembersTaken (suc (length ls)) (map key_of before ++ string_content k ∷ []) ms) (value_from f p s s' k r r' + length (print t)) (print_members (44 ∷ []) ms ++ rest) (Ok (state mode.After (level.Object q (before ++ member_of (string_content k) (key_at f p s s') (value_at (value_from f p s s' k r r') t) ∷ []) ∷ ls) o)) x
-    → Reads (MembersTaken (suc (length ls)) (map key_of before) (member s s' k r r' t ms)) p (print_members (comma_of f) (member s s' k r r' t ms) ++ rest) (Ok (state (object_mode f) (level.Object q before ∷ ls) o)) x
-member_from f s s' k r r' t ms p rest q before ls o x true e h h' hk hr hr' tree reads =
+member_from : (f : Bool) (g : Gap) (k : Key) (t : Tree) (ms : Members) (p : ℕ) (rest : List ℕ) (q : ℕ) (before : List Member) (ls : List Level) (o : Option OrderedJson) (x : Answer) (known : Bool) → has_key (string_content k.chars) (map key_of before) ≡ known → IsGap g → IsKey k
+    → ((y : Answer) → Answers (value_from f p g k + length (print t)) (print_members (44 ∷ []) ms ++ rest) (Ok (state mode.After (level.Object q (before ++ member_of (string_content k.chars) (key_at f p g) (value_at (value_from f p g k) t) ∷ []) ∷ ls) o)) y → Reads (IsTaken (suc (length ls)) t) (value_from f p g k) (print t ++ (print_members (44 ∷ []) ms ++ rest)) (Ok (state mode.Value (level.Member q before (string_content k.chars) (key_at f p g) ∷ ls) o)) y)
+    → Reads (MembersTaken (suc (length ls)) (map key_of before ++ string_content k.chars ∷ []) ms) (value_from f p g k + length (print t)) (print_members (44 ∷ []) ms ++ rest) (Ok (state mode.After (level.Object q (before ++ member_of (string_content k.chars) (key_at f p g) (value_at (value_from f p g k) t) ∷ []) ∷ ls) o)) x
+    → Reads (MembersTaken (suc (length ls)) (map key_of before) (member g k t ms)) p (print_members (comma_of f) (member g k t ms) ++ rest) (Ok (state (object_mode f) (level.Object q before ∷ ls) o)) x
+member_from f g k t ms p rest q before ls o x true e h hk tree reads =
     inr (
       λ taken. (let clash : true ≡ false = sym e ∙ taken.0 in cc),
-      DoubleKey (key_at f p s s'),
+      DoubleKey (key_at f p g),
       tt,
-      by_bytes (member_bytes (lead s (comma_of f) s') (print_string k) (key_end r r') (print t) (print_members (44 ∷ []) ms) rest)
-          (object_lead f s s' h h' (key_refused f k (key_end r r' ++ (print t ++ (print_members (44 ∷ []) ms ++ rest))) hk e)),
+      by_bytes (member_bytes (print_separator g (comma_of f)) (print_string k.chars) (print_colon k.gap) (print t) (print_members (44 ∷ []) ms) rest)
+          (object_lead f g h (key_refused f k.chars (print_colon k.gap ++ (print t ++ (print_members (44 ∷ []) ms ++ rest))) hk.0 e)),
     )
-member_from f s s' k r r' t ms p rest q before ls o x false e h h' hk hr hr' tree reads = chosen reads
+member_from f g k t ms p rest q before ls o x false e h hk tree reads = chosen reads
   where
-    goes : (y : Answer) → Answers (value_from f p s s' k r r') (print t ++ (print_members (44 ∷ []) ms ++ rest)) (Ok (state mode.Value (level.Member q before (string_content k) (key_at f p s s') ∷ ls) o)) y → Answers p (print_members (comma_of f) (member s s' k r r' t ms) ++ rest) (Ok (state (object_mode f) (level.Object q before ∷ ls) o)) y
+    goes : (y : Answer) → Answers (value_from f p g k) (print t ++ (print_members (44 ∷ []) ms ++ rest)) (Ok (state mode.Value (level.Member q before (string_content k.chars) (key_at f p g) ∷ ls) o)) y → Answers p (print_members (comma_of f) (member g k t ms) ++ rest) (Ok (state (object_mode f) (level.Object q before ∷ ls) o)) y
     goes y a =
-        by_bytes (member_bytes (lead s (comma_of f) s') (print_string k) (key_end r r') (print t) (print_members (44 ∷ []) ms) rest)
-        (object_lead f s s' h h' (key_read f k hk e (colon_read r r' hr hr' (by_place {q = value_from f p s s' k r r'} (omega (arith, length-append (print_string k) (key_end r r'))) a))))
+        by_bytes (member_bytes (print_separator g (comma_of f)) (print_string k.chars) (print_colon k.gap) (print t) (print_members (44 ∷ []) ms) rest)
+        (object_lead f g h (key_read f k.chars hk.0 e (colon_read k.gap hk.1 (by_place {q = value_from f p g k} (omega (arith, length-append (print_string k.chars) (print_colon k.gap))) a))))
 
-    led : (y : Answer) → ((MembersTaken (suc (length ls)) (map key_of before) (member s s' k r r' t ms) → ⊥) × (fault : JsonFault) × IsRefusal fault × (y ≡ Err fault)) ⊎ (y ≡ x) → Reads (IsTaken (suc (length ls)) t) (value_from f p s s' k r r') (print t ++ (print_members (44 ∷ []) ms ++ rest)) (Ok (state mode.Value (level.Member q before (string_content k) (key_at f p s s') ∷ ls) o)) y → Reads (MembersTaken (suc (length ls)) (map key_of before) (member s s' k r r' t ms)) p (print_members (comma_of f) (member s s' k r r' t ms) ++ rest) (Ok (state (object_mode f) (level.Object q before ∷ ls) o)) x
+    led : (y : Answer) → ((MembersTaken (suc (length ls)) (map key_of before) (member g k t ms) → ⊥) × (fault : JsonFault) × IsRefusal fault × (y ≡ Err fault)) ⊎ (y ≡ x) → Reads (IsTaken (suc (length ls)) t) (value_from f p g k) (print t ++ (print_members (44 ∷ []) ms ++ rest)) (Ok (state mode.Value (level.Member q before (string_content k.chars) (key_at f p g) ∷ ls) o)) y → Reads (MembersTaken (suc (length ls)) (map key_of before) (member g k t ms)) p (print_members (comma_of f) (member g k t ms) ++ rest) (Ok (state (object_mode f) (level.Object q before ∷ ls) o)) x
     led y why (inr b) = inr (λ taken. b.0 taken.1, b.1, b.2, goes (Err b.1) b.3)
-    led y (inl w) (inl b) = inr (w.0, w.1, w.2, subst (λ z. Answers p (print_members (comma_of f) (member s s' k r r' t ms) ++ rest) (Ok (state (object_mode f) (level.Object q before ∷ ls) o)) z) w.3 (goes y b))
-    led y (inr w) (inl b) = inl (subst (λ z. Answers p (print_members (comma_of f) (member s s' k r r' t ms) ++ rest) (Ok (state (object_mode f) (level.Object q before ∷ ls) o)) z) w (goes y b))
+    led y (inl w) (inl b) = inr (w.0, w.1, w.2, subst (λ z. Answers p (print_members (comma_of f) (member g k t ms) ++ rest) (Ok (state (object_mode f) (level.Object q before ∷ ls) o)) z) w.3 (goes y b))
+    led y (inr w) (inl b) = inl (subst (λ z. Answers p (print_members (comma_of f) (member g k t ms) ++ rest) (Ok (state (object_mode f) (level.Object q before ∷ ls) o)) z) w (goes y b))
 
-    chosen : Reads (MembersTaken (suc (length ls)) (map key_of before ++ string_content k ∷ []) ms) (value_from f p s s' k r r' + length (print t)) (print_members (44 ∷ []) ms ++ rest) (Ok (state mode.After (level.Object q (before ++ member_of (string_content k) (key_at f p s s') (value_at (value_from f p s s' k r r') t) ∷ []) ∷ ls) o)) x → Reads (MembersTaken (suc (length ls)) (map key_of before) (member s s' k r r' t ms)) p (print_members (comma_of f) (member s s' k r r' t ms) ++ rest) (Ok (state (object_mode f) (level.Object q before ∷ ls) o)) x
+    chosen : Reads (MembersTaken (suc (length ls)) (map key_of before ++ string_content k.chars ∷ []) ms) (value_from f p g k + length (print t)) (print_members (44 ∷ []) ms ++ rest) (Ok (state mode.After (level.Object q (before ++ member_of (string_content k.chars) (key_at f p g) (value_at (value_from f p g k) t) ∷ []) ∷ ls) o)) x → Reads (MembersTaken (suc (length ls)) (map key_of before) (member g k t ms)) p (print_members (comma_of f) (member g k t ms) ++ rest) (Ok (state (object_mode f) (level.Object q before ∷ ls) o)) x
     chosen (inl a) = led x (inr refl) (tree x a)
     chosen (inr c) = led (Err c.1) (inl (λ taken. c.0 taken.2, c.1, c.2, refl)) (tree (Err c.1) c.3)
 
@@ -157,13 +157,13 @@ mutual
       (spaces (list_waits f) s h (by_step (list_closes f (p + length s) q items ls o r)
       (by_place {q = p + length (s ++ 93 ∷ [])} (omega (arith, length-append s (93 ∷ [])))
       (by_same (ap (λ js. Ok (finished (a_list q js) ls o)) (sym (append-nil items))) a)))))
-  elements_read (element s s' t es) f p rest ls o q items x h r a =
-      let start = p + length (lead s (comma_of f) s') in
+  elements_read (element g t es) f p rest ls o q items x h r a =
+      let start = p + length (print_separator g (comma_of f)) in
       let v = value_at start t in
-      element_from f s s' t es p rest q items ls o x h.0 h.1
-      (λ y b. tree_read t f start (print_elements (44 ∷ []) es ++ rest) (level.List q items ∷ ls) o y h.2 r (ends_elements es rest h.3) b)
-      (elements_read es false (start + length (print t)) rest ls o q (items ++ v ∷ []) x h.3 r
-      (by_place {q = p + length (print_elements (comma_of f) (element s s' t es))} (omega (arith, element_length (lead s (comma_of f) s') (print t) (print_elements (44 ∷ []) es)))
+      element_from f g t es p rest q items ls o x h.0
+      (λ y b. tree_read t f start (print_elements (44 ∷ []) es ++ rest) (level.List q items ∷ ls) o y h.1 r (ends_elements es rest h.2) b)
+      (elements_read es false (start + length (print t)) rest ls o q (items ++ v ∷ []) x h.2 r
+      (by_place {q = p + length (print_elements (comma_of f) (element g t es))} (omega (arith, element_length (print_separator g (comma_of f)) (print t) (print_elements (44 ∷ []) es)))
       (by_same (ap (λ js. Ok (finished (a_list q js) ls o)) (append_assoc items (v ∷ []) (items_at (start + length (print t)) (44 ∷ []) es))) a)))
 
   pub members_read : (ms : Members) (f : Bool) (p : ℕ) (rest : List ℕ) (ls : List Level) (o : Option OrderedJson) (q : ℕ) (before : List Member) (x : Answer) → AreMembers ms → Ready ls → Answers (p + length (print_members (comma_of f) ms)) rest (Ok (finished (Object q (before ++ members_at p (comma_of f) ms)) ls o)) x → Reads (MembersTaken (suc (length ls)) (map key_of before) ms) p (print_members (comma_of f) ms ++ rest) (Ok (state (object_mode f) (level.Object q before ∷ ls) o)) x
@@ -172,15 +172,15 @@ mutual
       (spaces (object_waits f) s h (by_step (object_closes f (p + length s) q before ls o r)
       (by_place {q = p + length (s ++ 125 ∷ [])} (omega (arith, length-append s (125 ∷ [])))
       (by_same (ap (λ js. Ok (finished (Object q js) ls o)) (sym (append-nil before))) a)))))
-  members_read (member s s' k c c' t ms) f p rest ls o q before x h r a =
-      let start = value_from f p s s' k c c' in
-      let m = member_of (string_content k) (key_at f p s s') (value_at start t) in
-      let keys : map key_of (before ++ m ∷ []) ≡ map key_of before ++ string_content k ∷ [] = map-append key_of before (m ∷ []) ∙ ap (λ n. map key_of before ++ n ∷ []) (key_of-member_of (string_content k) (key_at f p s s') (value_at start t)) in
-      member_from f s s' k c c' t ms p rest q before ls o x (has_key (string_content k) (map key_of before)) refl h.0 h.1 h.2 h.3 h.4
-      (λ y b. tree_read t false start (print_members (44 ∷ []) ms ++ rest) (level.Member q before (string_content k) (key_at f p s s') ∷ ls) o y h.5 r (ends_members ms rest h.6) b)
+  members_read (member g k t ms) f p rest ls o q before x h r a =
+      let start = value_from f p g k in
+      let m = member_of (string_content k.chars) (key_at f p g) (value_at start t) in
+      let keys : map key_of (before ++ m ∷ []) ≡ map key_of before ++ string_content k.chars ∷ [] = map-append key_of before (m ∷ []) ∙ ap (λ n. map key_of before ++ n ∷ []) (key_of-member_of (string_content k.chars) (key_at f p g) (value_at start t)) in
+      member_from f g k t ms p rest q before ls o x (has_key (string_content k.chars) (map key_of before)) refl h.0 h.1
+      (λ y b. tree_read t false start (print_members (44 ∷ []) ms ++ rest) (level.Member q before (string_content k.chars) (key_at f p g) ∷ ls) o y h.2 r (ends_members ms rest h.3) b)
       (subst (λ ks. Reads (MembersTaken (suc (length ls)) ks ms) (start + length (print t)) (print_members (44 ∷ []) ms ++ rest) (Ok (state mode.After (level.Object q (before ++ m ∷ []) ∷ ls) o)) x) keys
-      (members_read ms false (start + length (print t)) rest ls o q (before ++ m ∷ []) x h.6 r
-      (by_place {q = p + length (print_members (comma_of f) (member s s' k c c' t ms))} (omega (arith, member_length (lead s (comma_of f) s') (print_string k) (key_end c c') (print t) (print_members (44 ∷ []) ms), length-append (print_string k) (key_end c c')))
+      (members_read ms false (start + length (print t)) rest ls o q (before ++ m ∷ []) x h.3 r
+      (by_place {q = p + length (print_members (comma_of f) (member g k t ms))} (omega (arith, member_length (print_separator g (comma_of f)) (print_string k.chars) (print_colon k.gap) (print t) (print_members (44 ∷ []) ms), length-append (print_string k.chars) (print_colon k.gap)))
       (by_same (ap (λ js. Ok (finished (Object q js) ls o)) (append_assoc before (m ∷ []) (members_at (start + length (print t)) (44 ∷ []) ms))) a))))
 
 -- ---- a text

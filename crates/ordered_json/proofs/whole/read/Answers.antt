@@ -1,7 +1,7 @@
 -- What the reader answers to the whole text is its value or its first fault.
 use Rattle.std.proofs.Common.{arith}
-use Rattle.ordered_json.proofs.Verdict.{all_mean, all_faults, all_refused}
-use Rattle.ordered_json.proofs.read.Goals as goal
+use Rattle.ordered_json.proofs.AnswerLemmas.{all_mean, all_faults, all_refused}
+use Rattle.ordered_json.proofs.whole.read.Goals as goal
 
 pub returns-clause-ok : goal.returns-clause-ok
 returns-clause-ok c = all_mean c.args.text.now c.read_whole.result (omega arith) c.read_whole.ensures.ok

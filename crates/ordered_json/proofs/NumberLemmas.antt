@@ -6,13 +6,13 @@ use Rattle.ordered_json.specs.declared.json.OrderedJson.{OrderedJson, Int}
 use Rattle.ordered_json.specs.declared.level.Level.{Level}
 use Rattle.ordered_json.specs.declared.mode.Mode.{Mode}
 use Rattle.ordered_json.specs.declared.mode.Mode.TheVariants as mode
-use Rattle.ordered_json.specs.Grammar.{is_decimal, AreDigits, IsWhole, signed}
+use Rattle.ordered_json.specs.Grammar.{is_decimal, AreDigits, IsWhole, with_minus}
 use Rattle.ordered_json.specs.Meaning.{magnitude, int_value, fits}
 use Rattle.ordered_json.specs.Faults.{is_mark, EndsNumber}
 use Rattle.ordered_json.specs.Steps.{between, begin_value, take_byte, settle, end_number, after_digits, in_digits, after_minus, answer_from, answer_of, and_then, open_number}
-use Rattle.ordered_json.proofs.Runs.{Answers, by_step, by_place, by_fault}
-use Rattle.ordered_json.proofs.States.{state, Ready, finished, complete_ready, awaiting}
-use Rattle.ordered_json.proofs.Accept.{Answer}
+use Rattle.ordered_json.proofs.RunLemmas.{Answers, by_step, by_place, by_fault}
+use Rattle.ordered_json.proofs.StateLemmas.{state, Ready, finished, complete_ready, awaiting}
+use Rattle.ordered_json.proofs.LiteralLemmas.{Answer}
 
 -- a number as the reader keeps it
 abbrev pub sat : ℕ → ℕ
@@ -90,26 +90,26 @@ zero_minus p q ls o = refl
 
 -- what follows the digits, in whatever mode they leave the reader
 abbrev Follows : ℕ → Bool → List ℕ → List ℕ → List Level → Option OrderedJson → Answer → Type 0
-Follows p minus ds rest ls o x = (m : Mode) → IsNumberMode m p minus (magnitude ds) → Answers (p + length (signed minus ds)) rest (Ok (state m ls o)) x
+Follows p minus ds rest ls o x = (m : Mode) → IsNumberMode m p minus (magnitude ds) → Answers (p + length (with_minus minus ds)) rest (Ok (state m ls o)) x
 
-zero_read : (f minus : Bool) (p : ℕ) (rest : List ℕ) (ls : List Level) (o : Option OrderedJson) (x : Answer) → Follows p minus (48 ∷ []) rest ls o x → Answers p (signed minus (48 ∷ []) ++ rest) (Ok (state (awaiting f) ls o)) x
+zero_read : (f minus : Bool) (p : ℕ) (rest : List ℕ) (ls : List Level) (o : Option OrderedJson) (x : Answer) → Follows p minus (48 ∷ []) rest ls o x → Answers p (with_minus minus (48 ∷ []) ++ rest) (Ok (state (awaiting f) ls o)) x
 zero_read f true p rest ls o x k = by_step (minus_step f p ls o) (by_step (zero_minus (p + 1) p ls o) (by_place {q = p + 2} (omega arith) (k (mode.Zero (open_number p true 0)) (zero_mode p true))))
 zero_read f false p rest ls o x k = by_step (zero_step f p ls o) (k (mode.Zero (open_number p false 0)) (zero_mode p false))
 
 -- the sign and digits that do not begin with 0
-pub nonzero_read : (f minus : Bool) (b : ℕ) (bs : List ℕ) {p : ℕ} {rest : List ℕ} {ls : List Level} {o : Option OrderedJson} {x : Answer} → b == 48 ≡ false → AreDigits (b ∷ bs) → Answers (p + length (signed minus (b ∷ bs))) rest (Ok (state (mode.Digits (open_number p minus (sat (magnitude (b ∷ bs))))) ls o)) x → Answers p (signed minus (b ∷ bs) ++ rest) (Ok (state (awaiting f) ls o)) x
+pub nonzero_read : (f minus : Bool) (b : ℕ) (bs : List ℕ) {p : ℕ} {rest : List ℕ} {ls : List Level} {o : Option OrderedJson} {x : Answer} → b == 48 ≡ false → AreDigits (b ∷ bs) → Answers (p + length (with_minus minus (b ∷ bs))) rest (Ok (state (mode.Digits (open_number p minus (sat (magnitude (b ∷ bs))))) ls o)) x → Answers p (with_minus minus (b ∷ bs) ++ rest) (Ok (state (awaiting f) ls o)) x
 nonzero_read f true b bs {p} {ls = ls} {o = o} n h a =
     by_step (minus_step f p ls o) (by_step (first_minus (p + 1) p b ls o n h.0) (digits_read bs (grow 0 b) h.1 (by_place {q = p + length (45 ∷ b ∷ bs)} (omega arith) a)))
 nonzero_read f false b bs {p} {ls = ls} {o = o} n h a = by_step (first_step f p b ls o n h.0) (digits_read bs (grow 0 b) h.1 (by_place {q = p + length (b ∷ bs)} (omega arith) a))
 
 -- the sign and the digits
 pub number_read : (f minus : Bool) (ds : List ℕ) {p : ℕ} {rest : List ℕ} {ls : List Level} {o : Option OrderedJson} {x : Answer} → IsWhole ds
-    → ((m : Mode) → IsNumberMode m p minus (magnitude ds) → Answers (p + length (signed minus ds)) rest (Ok (state m ls o)) x)
-    → Answers p (signed minus ds ++ rest) (Ok (state (awaiting f) ls o)) x
+    → ((m : Mode) → IsNumberMode m p minus (magnitude ds) → Answers (p + length (with_minus minus ds)) rest (Ok (state m ls o)) x)
+    → Answers p (with_minus minus ds ++ rest) (Ok (state (awaiting f) ls o)) x
 number_read f minus [] h k = absurd h
 number_read f minus (b ∷ bs) {p} {rest} {ls} {o} {x} (inl e) k =
     let same : 48 ∷ [] ≡ b ∷ bs = cc in
-    subst (λ ds. Follows p minus ds rest ls o x → Answers p (signed minus ds ++ rest) (Ok (state (awaiting f) ls o)) x) same (zero_read f minus p rest ls o x) k
+    subst (λ ds. Follows p minus ds rest ls o x → Answers p (with_minus minus ds ++ rest) (Ok (state (awaiting f) ls o)) x) same (zero_read f minus p rest ls o x) k
 number_read f minus (b ∷ bs) {p} {ls = ls} {o = o} (inr e) k = nonzero_read f minus b bs e.0 e.1 (k (mode.Digits (open_number p minus (sat (magnitude (b ∷ bs))))) (digits_mode p minus (magnitude (b ∷ bs))))
 
 -- the end of a number that fits

@@ -5,7 +5,7 @@ use Rattle.std.specs.Str.{bytes_eq}
 use Rattle.std.proofs.lemmas.Slice.Eq.{bytes_eq-Decides}
 use Rattle.ordered_json.specs.Grammar.{Char, plain, AreChars, print_char, print_chars}
 use Rattle.ordered_json.specs.Meaning.{string_content, char_value, has_key}
-use Rattle.ordered_json.proofs.Strings.{encode_one}
+use Rattle.ordered_json.proofs.StringLemmas.{encode_one}
 
 longest : List (List ℕ) → ℕ
 longest [] = 0

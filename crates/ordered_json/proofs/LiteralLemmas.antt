@@ -8,14 +8,11 @@ use Rattle.ordered_json.specs.declared.mode.Mode.TheVariants as mode
 use Rattle.ordered_json.specs.Grammar.{IsSpace}
 use Rattle.ordered_json.specs.Steps.{between, begin_value, take_byte, in_name, open_name}
 use Rattle.ordered_json.specs.declared.mode.LiteralName.TheVariants as literal
-use Rattle.ordered_json.proofs.Runs.{Answers, by_step, by_place}
-use Rattle.ordered_json.proofs.States.{state, Ready, finished, complete_ready, awaiting, blank_step}
+use Rattle.ordered_json.proofs.RunLemmas.{Answers, by_step, by_place}
+use Rattle.ordered_json.proofs.StateLemmas.{state, Ready, finished, complete_ready, awaiting, blank_step}
 
 abbrev pub Answer : Type 0
 Answer = Result OrderedJson JsonFault
-
-pub dummy : Unit {0}
-dummy = tt
 
 -- a mode of a reader between tokens, whose step is `between`
 abbrev pub Waits : Mode → Type 0

@@ -14,14 +14,14 @@ use Rattle.ordered_json.specs.declared.mode.Mode.{Mode}
 use Rattle.ordered_json.specs.declared.mode.Mode.TheVariants as mode
 use Rattle.ordered_json.specs.declared.mode.Spelling.TheVariants as at
 use Rattle.ordered_json.specs.Words.{key_of}
-use Rattle.ordered_json.specs.Grammar.{Char, AreChars, is_blank, is_decimal, IsSpace, print_chars, print_string, Elements, no_elements, element, Members, no_members, member, print, print_elements, print_members, lead, key_end, AreElements, AreMembers}
+use Rattle.ordered_json.specs.Grammar.{Char, AreChars, is_blank, is_decimal, IsSpace, print_chars, print_string, Elements, no_elements, element, Members, no_members, member, print, print_elements, print_members, print_separator, print_colon, Gap, IsGap, AreElements, AreMembers}
 use Rattle.ordered_json.specs.Meaning.{string_content, has_key}
 use Rattle.ordered_json.specs.Faults.{is_mark, EndsNumber}
 use Rattle.ordered_json.specs.Steps.{Reading, close_list, close_object, between, begin_value, take_byte, in_text, end_text, end_key, take_comma, text_mode}
-use Rattle.ordered_json.proofs.Runs.{Answers, by_step, by_place, by_bytes, by_fault}
-use Rattle.ordered_json.proofs.States.{state, Ready, finished, complete_ready, awaiting}
-use Rattle.ordered_json.proofs.Accept.{Answer, Waits, awaiting_waits, spaces}
-use Rattle.ordered_json.proofs.Strings.{text_state, chars_read}
+use Rattle.ordered_json.proofs.RunLemmas.{Answers, by_step, by_place, by_bytes, by_fault}
+use Rattle.ordered_json.proofs.StateLemmas.{state, Ready, finished, complete_ready, awaiting}
+use Rattle.ordered_json.proofs.LiteralLemmas.{Answer, Waits, awaiting_waits, spaces}
+use Rattle.ordered_json.proofs.StringLemmas.{text_state, chars_read}
 
 -- a fault that a text has by what it says, and not by its syntax
 abbrev pub IsRefusal : JsonFault → Type 0
@@ -114,16 +114,16 @@ ends_space (c ∷ s) b rest h e = ends_blank c h.0
 
 pub ends_elements : (es : Elements) (rest : List ℕ) → AreElements es → EndsNumber (print_elements (44 ∷ []) es ++ rest)
 ends_elements (no_elements s) rest h = subst EndsNumber (sym (append_assoc s (93 ∷ []) rest)) (ends_space s 93 rest h refl)
-ends_elements (element s s' t es) rest h =
-    subst EndsNumber (sym (append_assoc (lead s (44 ∷ []) s') (print t ++ print_elements (44 ∷ []) es) rest ∙ append_assoc s (44 ∷ s') ((print t ++ print_elements (44 ∷ []) es) ++ rest)))
-    (ends_space s 44 (s' ++ ((print t ++ print_elements (44 ∷ []) es) ++ rest)) h.0 refl)
+ends_elements (element g t es) rest h =
+    subst EndsNumber (sym (append_assoc (print_separator g (44 ∷ [])) (print t ++ print_elements (44 ∷ []) es) rest ∙ append_assoc g.before (44 ∷ g.after) ((print t ++ print_elements (44 ∷ []) es) ++ rest)))
+    (ends_space g.before 44 (g.after ++ ((print t ++ print_elements (44 ∷ []) es) ++ rest)) h.0.0 refl)
 
 pub ends_members : (ms : Members) (rest : List ℕ) → AreMembers ms → EndsNumber (print_members (44 ∷ []) ms ++ rest)
 ends_members (no_members s) rest h = subst EndsNumber (sym (append_assoc s (125 ∷ []) rest)) (ends_space s 125 rest h refl)
-ends_members (member s s' k r r' t ms) rest h =
-    let after = print_string k ++ (key_end r r' ++ (print t ++ print_members (44 ∷ []) ms)) in
-    subst EndsNumber (sym (append_assoc (lead s (44 ∷ []) s') after rest ∙ append_assoc s (44 ∷ s') (after ++ rest)))
-    (ends_space s 44 (s' ++ (after ++ rest)) h.0 refl)
+ends_members (member g k t ms) rest h =
+    let after = print_string k.chars ++ (print_colon k.gap ++ (print t ++ print_members (44 ∷ []) ms)) in
+    subst EndsNumber (sym (append_assoc (print_separator g (44 ∷ [])) after rest ∙ append_assoc g.before (44 ∷ g.after) (after ++ rest)))
+    (ends_space g.before 44 (g.after ++ (after ++ rest)) h.0.0 refl)
 
 -- ---- between the elements of an array and the members of an object
 -- the mode before an element: none was read, or one was
@@ -163,26 +163,26 @@ object_comma : (place q : ℕ) (ms : List Member) (ls : List Level) (o : Option 
 unfolding take_byte between take_comma
 object_comma place q ms ls o = refl
 
-lead_length : (s comma s' : List ℕ) → length (lead s comma s') ≡ length s + length comma + length s'
-lead_length s comma s' = omega (arith, length-append s (comma ++ s'), length-append comma s')
+length-print_separator : (g : Gap) (mark : List ℕ) → length (print_separator g mark) ≡ length g.before + length mark + length g.after
+length-print_separator g mark = omega (arith, length-append g.before (mark ++ g.after), length-append mark g.after)
 
-pub list_lead : (f : Bool) (s s' : List ℕ) {p : ℕ} {rest : List ℕ} {q : ℕ} {items : List OrderedJson} {ls : List Level} {o : Option OrderedJson} {x : Answer} → IsSpace s → IsSpace s' → Answers (p + length (lead s (comma_of f) s')) rest (Ok (state (awaiting f) (level.List q items ∷ ls) o)) x → Answers p (lead s (comma_of f) s' ++ rest) (Ok (state (list_mode f) (level.List q items ∷ ls) o)) x
-list_lead true s s' {p} {rest} h h' a =
-    by_bytes (append_assoc s s' rest)
-    (spaces (list_waits true) s h (spaces (list_waits true) s' h' (by_place {q = p + length (lead s [] s')} (omega (arith, lead_length s [] s')) a)))
-list_lead false s s' {p} {rest} {q} {items} {ls} {o} h h' a =
-    by_bytes (append_assoc s (44 ∷ s') rest)
-    (spaces (list_waits false) s h (by_step (list_comma (p + length s) q items ls o)
-    (spaces (awaiting_waits false) s' h' (by_place {q = p + length (lead s (44 ∷ []) s')} (omega (arith, lead_length s (44 ∷ []) s')) a))))
+pub list_lead : (f : Bool) (g : Gap) {p : ℕ} {rest : List ℕ} {q : ℕ} {items : List OrderedJson} {ls : List Level} {o : Option OrderedJson} {x : Answer} → IsGap g → Answers (p + length (print_separator g (comma_of f))) rest (Ok (state (awaiting f) (level.List q items ∷ ls) o)) x → Answers p (print_separator g (comma_of f) ++ rest) (Ok (state (list_mode f) (level.List q items ∷ ls) o)) x
+list_lead true g {p} {rest} h a =
+    by_bytes (append_assoc g.before g.after rest)
+    (spaces (list_waits true) g.before h.0 (spaces (list_waits true) g.after h.1 (by_place {q = p + length (print_separator g [])} (omega (arith, length-print_separator g [])) a)))
+list_lead false g {p} {rest} {q} {items} {ls} {o} h a =
+    by_bytes (append_assoc g.before (44 ∷ g.after) rest)
+    (spaces (list_waits false) g.before h.0 (by_step (list_comma (p + length g.before) q items ls o)
+    (spaces (awaiting_waits false) g.after h.1 (by_place {q = p + length (print_separator g (44 ∷ []))} (omega (arith, length-print_separator g (44 ∷ []))) a))))
 
-pub object_lead : (f : Bool) (s s' : List ℕ) {p : ℕ} {rest : List ℕ} {q : ℕ} {ms : List Member} {ls : List Level} {o : Option OrderedJson} {x : Answer} → IsSpace s → IsSpace s' → Answers (p + length (lead s (comma_of f) s')) rest (Ok (state (key_mode f) (level.Object q ms ∷ ls) o)) x → Answers p (lead s (comma_of f) s' ++ rest) (Ok (state (object_mode f) (level.Object q ms ∷ ls) o)) x
-object_lead true s s' {p} {rest} h h' a =
-    by_bytes (append_assoc s s' rest)
-    (spaces (object_waits true) s h (spaces (object_waits true) s' h' (by_place {q = p + length (lead s [] s')} (omega (arith, lead_length s [] s')) a)))
-object_lead false s s' {p} {rest} {q} {ms} {ls} {o} h h' a =
-    by_bytes (append_assoc s (44 ∷ s') rest)
-    (spaces (object_waits false) s h (by_step (object_comma (p + length s) q ms ls o)
-    (spaces (key_waits false) s' h' (by_place {q = p + length (lead s (44 ∷ []) s')} (omega (arith, lead_length s (44 ∷ []) s')) a))))
+pub object_lead : (f : Bool) (g : Gap) {p : ℕ} {rest : List ℕ} {q : ℕ} {ms : List Member} {ls : List Level} {o : Option OrderedJson} {x : Answer} → IsGap g → Answers (p + length (print_separator g (comma_of f))) rest (Ok (state (key_mode f) (level.Object q ms ∷ ls) o)) x → Answers p (print_separator g (comma_of f) ++ rest) (Ok (state (object_mode f) (level.Object q ms ∷ ls) o)) x
+object_lead true g {p} {rest} h a =
+    by_bytes (append_assoc g.before g.after rest)
+    (spaces (object_waits true) g.before h.0 (spaces (object_waits true) g.after h.1 (by_place {q = p + length (print_separator g [])} (omega (arith, length-print_separator g [])) a)))
+object_lead false g {p} {rest} {q} {ms} {ls} {o} h a =
+    by_bytes (append_assoc g.before (44 ∷ g.after) rest)
+    (spaces (object_waits false) g.before h.0 (by_step (object_comma (p + length g.before) q ms ls o)
+    (spaces (key_waits false) g.after h.1 (by_place {q = p + length (print_separator g (44 ∷ []))} (omega (arith, length-print_separator g (44 ∷ []))) a))))
 
 colon_waits : Waits mode.Colon
 unfolding take_byte
@@ -192,11 +192,11 @@ colon_step : (place : ℕ) (ls : List Level) (o : Option OrderedJson) → take_b
 unfolding take_byte between
 colon_step place ls o = refl
 
-pub colon_read : (r r' : List ℕ) {p : ℕ} {rest : List ℕ} {ls : List Level} {o : Option OrderedJson} {x : Answer} → IsSpace r → IsSpace r' → Answers (p + length (key_end r r')) rest (Ok (state mode.Value ls o)) x → Answers p (key_end r r' ++ rest) (Ok (state mode.Colon ls o)) x
-colon_read r r' {p} {rest} {ls} {o} h h' a =
-    by_bytes (append_assoc r (58 ∷ r') rest)
-    (spaces colon_waits r h (by_step (colon_step (p + length r) ls o)
-    (spaces (awaiting_waits false) r' h' (by_place {q = p + length (key_end r r')} (omega (arith, length-append r (58 ∷ r'))) a))))
+pub colon_read : (g : Gap) {p : ℕ} {rest : List ℕ} {ls : List Level} {o : Option OrderedJson} {x : Answer} → IsGap g → Answers (p + length (print_colon g)) rest (Ok (state mode.Value ls o)) x → Answers p (print_colon g ++ rest) (Ok (state mode.Colon ls o)) x
+colon_read g {p} {rest} {ls} {o} h a =
+    by_bytes (append_assoc g.before (58 ∷ g.after) rest)
+    (spaces colon_waits g.before h.0 (by_step (colon_step (p + length g.before) ls o)
+    (spaces (awaiting_waits false) g.after h.1 (by_place {q = p + length (print_colon g)} (omega (arith, length-append g.before (58 ∷ g.after))) a))))
 
 -- ---- brackets that open
 pub list_opens : (f : Bool) (p : ℕ) (ls : List Level) (o : Option OrderedJson) → nat_lt (length ls) MAX_LEVELS ≡ true → take_byte p 91 (state (awaiting f) ls o) ≡ Ok (state mode.FirstItem (level.List p [] ∷ ls) o)

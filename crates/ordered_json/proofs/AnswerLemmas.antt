@@ -13,18 +13,18 @@ use Rattle.ordered_json.specs.declared.mode.Mode.TheVariants as mode
 use Rattle.ordered_json.specs.declared.reader.Reader.{Reader}
 use Rattle.ordered_json.specs.Grammar.{IsJson, IsWhole}
 use Rattle.ordered_json.specs.Meaning.{IsMeaningless, magnitude, int_value, fits, value_at, IsTaken, HasValue, Means}
-use Rattle.ordered_json.specs.Faults.{Begins, BeginsFaultless, HasSyntaxFault, HasDoubleKey, HasNumber, HasFraction, IsOutOfRange, IsTooDeep, HasFault}
+use Rattle.ordered_json.specs.Faults.{Begins, BeginsFaultless, HasSyntaxFault, HasDoubleKey, HasFraction, IsOutOfRange, IsTooDeep, HasFault}
 use Rattle.ordered_json.specs.Steps.{Reading, reader_answer, answer_from, answer_of, finish, settle, end_number, take_byte, start, open_number}
-use Rattle.ordered_json.proofs.Runs.{answer_from-err}
-use Rattle.ordered_json.proofs.States.{state, finished}
-use Rattle.ordered_json.proofs.Accept.{Answer}
-use Rattle.ordered_json.proofs.Numbers.{sat, number_taken, number_refused}
-use Rattle.ordered_json.proofs.Trees.{IsRefusal}
-use Rattle.ordered_json.proofs.Texts.{answers_json}
-use Rattle.ordered_json.proofs.Reached.{awaits-ready}
-use Rattle.ordered_json.proofs.Values.{AfterValue, after_all, after_item, after_entry, after_faultless, awaits_faultless, key_awaits_faultless, colon_awaits_faultless, closed_list_faultless, closed_object_faultless}
-use Rattle.ordered_json.proofs.Judged.{NumberText, Reached, r_value, r_first_item, r_first_key, r_key, r_colon, r_after, r_name, r_minus, r_zero, r_digits, r_text, r_key_text, Shows, Judges, first_closed, first_closed_object, word_faultless, minus_faultless, number_stands, number_after}
-use Rattle.ordered_json.proofs.Soundness.{reached_step, text_faultless, key_text_faultless}
+use Rattle.ordered_json.proofs.RunLemmas.{answer_from-err}
+use Rattle.ordered_json.proofs.StateLemmas.{state, finished}
+use Rattle.ordered_json.proofs.LiteralLemmas.{Answer}
+use Rattle.ordered_json.proofs.NumberLemmas.{sat, number_taken, number_refused}
+use Rattle.ordered_json.proofs.TokenLemmas.{IsRefusal}
+use Rattle.ordered_json.proofs.TreeLemmas.{answers_json}
+use Rattle.ordered_json.proofs.PrefixLemmas.{awaits-ready}
+use Rattle.ordered_json.proofs.ValueLemmas.{AfterValue, after_all, after_item, after_entry, after_faultless, awaits_faultless, key_awaits_faultless, colon_awaits_faultless, closed_list_faultless, closed_object_faultless}
+use Rattle.ordered_json.proofs.ByteLemmas.{NumberText, Reached, r_value, r_first_item, r_first_key, r_key, r_colon, r_after, r_name, r_minus, r_zero, r_digits, r_text, r_key_text, Shows, Judges, first_closed, first_closed_object, word_faultless, minus_faultless, number_stands, number_after}
+use Rattle.ordered_json.proofs.StepLemmas.{reached_step, text_faultless, key_text_faultless}
 
 -- a text with a value is answered by it
 pub reader_answer-value : (text : List ℕ) (json : OrderedJson) → HasValue text json → reader_answer text ≡ Ok json
@@ -69,9 +69,6 @@ syntax_end text h e = record {
   faultless = subst BeginsFaultless (sym (take_all (length text) text (omega arith))) h;
   fault = inl (refl, λ j. json-no_syntax text (length text) j e);
 }
-
-says_syntax : (text : List ℕ) (x : Answer) → x ≡ Err (Syntax (length text)) → BeginsFaultless text → reader_answer text ≡ x → Says text x
-says_syntax text x e h a = subst (Says text) (sym e) (syntax_end text h (a ∙ e))
 
 after_end : (text : List ℕ) (r : Reader) → AfterValue text r → reader_answer text ≡ answer_of (length text) (Ok r) → Says text (answer_of (length text) (Ok r))
 after_end text r (after_all h) e = h

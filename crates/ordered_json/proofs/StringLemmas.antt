@@ -15,8 +15,8 @@ use Rattle.ordered_json.specs.Grammar.{Char, plain, escaped, coded, paired, Code
 use Rattle.ordered_json.specs.Meaning.{char_value, string_content, pair_value}
 use Rattle.ordered_json.specs.Steps.{take_byte, in_text, open_text}
 use Rattle.ordered_json.specs.Spell.{spell, char_of, two_bytes, three_bytes, four_bytes, is_second, is_tail, is_lead, hex_unit}
-use Rattle.ordered_json.proofs.Runs.{Answers, by_step, by_same, by_place, by_bytes}
-use Rattle.ordered_json.proofs.Accept.{Answer}
+use Rattle.ordered_json.proofs.RunLemmas.{Answers, by_step, by_same, by_place, by_bytes}
+use Rattle.ordered_json.proofs.LiteralLemmas.{Answer}
 
 -- a string is being read
 abbrev pub text_state : ℕ → Bool → Spelling → List Level → Option OrderedJson → List ℕ → Reader

@@ -9,8 +9,9 @@ use Rattle.ordered_json.specs.declared.mode.Mode.TheVariants as mode
 use Rattle.ordered_json.specs.declared.reader.Reader.{Reader}
 use Rattle.ordered_json.specs.Grammar.{is_blank, Char, AreChars, IsSpace, Tree, null, print, IsTree}
 use Rattle.ordered_json.specs.Meaning.{string_content, value_at, IsTaken}
-use Rattle.ordered_json.proofs.States.{state, finished}
-use Rattle.ordered_json.proofs.Reached.{KeyAwaits, ColonAwaits, Awaits, space-snoc, snoc-two, awaits-ready, faultless-front, faultless-is, plug}
+use Rattle.ordered_json.proofs.StateLemmas.{state, finished}
+use Rattle.ordered_json.proofs.FrontLemmas.{gap_of}
+use Rattle.ordered_json.proofs.PrefixLemmas.{KeyAwaits, ColonAwaits, Awaits, space-snoc, snoc-two, awaits-ready, faultless-front, faultless-is, plug}
 use Rattle.std.proofs.Common.{◌≡◌, [], ◌∷◌, ◌++◌, ℕ, ◌+◌, ◌-◌, ◌<◌, ◌≤◌, Bool, true, false, cond, ◌||◌, ◌&&◌, ◌==◌, ◌⊎◌, inl, inr, List, length, take, drop, Some, None, Result, Ok, Err, fold, refl, ap, sym, ◌∙◌, arith, subst, append_assoc, append-nil, length-append}
 use Rattle.std.specs.Prelude.{nat_lt}
 use Rattle.std.proofs.Math.Seq.{take-append_seam, drop-append_seam}
@@ -20,19 +21,18 @@ use Rattle.ordered_json.specs.declared.fault.JsonFault.{JsonFault}
 use Rattle.ordered_json.specs.declared.fault.JsonFault.TheVariants.{Syntax, DoubleKey, Fraction, Range, TooDeep, TooLong, Memory}
 use Rattle.ordered_json.specs.declared.json.OrderedJson.{Int}
 use Rattle.ordered_json.specs.declared.mode.Spelling.{Spelling}
-use Rattle.ordered_json.specs.declared.mode.Spelling.TheVariants as at
 use Rattle.ordered_json.specs.declared.mode.LiteralName.{LiteralName}
 use Rattle.ordered_json.specs.declared.mode.LiteralName.TheVariants as literal
-use Rattle.ordered_json.specs.Grammar.{is_decimal, AreDigits, IsWhole, signed, print_chars, boolean, number}
+use Rattle.ordered_json.specs.Grammar.{is_decimal, AreDigits, IsWhole, with_minus, print_chars, boolean, number}
 use Rattle.ordered_json.specs.Meaning.{magnitude, int_value, fits}
 use Rattle.ordered_json.specs.Faults.{BeginsFaultless, AwaitsValue, HasDoubleKey, HasNumber, HasFraction, IsOutOfRange, IsTooDeep, is_mark}
-use Rattle.ordered_json.specs.Steps.{Reading, complete, open_level, close_list, close_object, between, begin_value, begin_key, scalar_mode, go, go_if, in_name, take_comma, end_number, after_digits, after_minus, and_then, literal_letters, literal_value, letter_at, name_mode, number_mode, open_name, open_number, text_mode}
-use Rattle.ordered_json.proofs.States.{complete_ready}
-use Rattle.ordered_json.proofs.Numbers.{sat, grow, small_digit, number_taken, number_refused}
-use Rattle.ordered_json.proofs.Strings.{below}
-use Rattle.ordered_json.proofs.Strings.{text_state}
-use Rattle.ordered_json.proofs.Spelled.{IsSpelling, spelled_bytes, eq_at}
-use Rattle.ordered_json.proofs.Values.{AfterValue, after_all, after_item, after_entry, finished_after, ClosedList, close_list_text, ClosedObject, close_object_text, closed_list_after, closed_object_after, item_after_closed, entry_after_closed, awaits_faultless, key_awaits_faultless, after_faultless, awaits_value}
+use Rattle.ordered_json.specs.Steps.{Reading, complete, open_level, close_list, close_object, between, begin_value, begin_key, scalar_mode, to_mode, to_mode_if, in_name, take_comma, end_number, after_digits, after_minus, and_then, literal_letters, literal_value, letter_at, name_mode, number_mode, open_name, open_number, text_mode}
+use Rattle.ordered_json.proofs.StateLemmas.{complete_ready}
+use Rattle.ordered_json.proofs.NumberLemmas.{sat, grow, small_digit, number_taken, number_refused}
+use Rattle.ordered_json.proofs.StringLemmas.{below}
+use Rattle.ordered_json.proofs.StringLemmas.{text_state}
+use Rattle.ordered_json.proofs.SpellLemmas.{IsSpelling, spelled_bytes, eq_at}
+use Rattle.ordered_json.proofs.ValueLemmas.{AfterValue, after_all, after_item, after_entry, finished_after, ClosedList, close_list_text, ClosedObject, close_object_text, closed_list_after, closed_object_after, item_after_closed, entry_after_closed, awaits_faultless, key_awaits_faultless, after_faultless, awaits_value}
 
 -- a bracket that was just opened, and white space
 pub record FirstOf (bracket : ℕ) (ls : List Level) (p : ℕ) (text : List ℕ) : Type 0 where
@@ -57,7 +57,7 @@ pub record NumberText (ls : List Level) (p : ℕ) (minus : Bool) (ds : List ℕ)
   pub before : List ℕ
   pub stands : Awaits ls before
   pub place : p ≡ length before
-  pub printed : text ≡ before ++ signed minus ds
+  pub printed : text ≡ before ++ with_minus minus ds
 
 -- the opening quote and the first characters of a string; `awaited` says what stands before it
 pub record StringText (awaited : List ℕ → Type 0) (p : ℕ) (s : Spelling) (c : List ℕ) (text : List ℕ) : Type 0 where
@@ -114,18 +114,18 @@ pub one_more : (text : List ℕ) (b c : ℕ) → b == c ≡ true → text ++ b �
 one_more text b c e = ap (λ n. text ++ n ∷ []) (eq_at b c e)
 
 -- ---- one more digit
-signed-snoc : (minus : Bool) (ds : List ℕ) (b : ℕ) → signed minus ds ++ b ∷ [] ≡ signed minus (ds ++ b ∷ [])
-signed-snoc true ds b = refl
-signed-snoc false ds b = refl
+with_minus-snoc : (minus : Bool) (ds : List ℕ) (b : ℕ) → with_minus minus ds ++ b ∷ [] ≡ with_minus minus (ds ++ b ∷ [])
+with_minus-snoc true ds b = refl
+with_minus-snoc false ds b = refl
 
 pub number_more : {ls : List Level} {p : ℕ} {minus : Bool} {ds : List ℕ} (text : List ℕ) (b : ℕ) → NumberText ls p minus ds text → NumberText ls p minus (ds ++ b ∷ []) (text ++ b ∷ [])
-number_more {minus = minus} {ds} text b h = record { before = h.before; stands = h.stands; place = h.place; printed = ap (λ w. w ++ b ∷ []) h.printed ∙ (append_assoc h.before (signed minus ds) (b ∷ []) ∙ ap (λ w. h.before ++ w) (signed-snoc minus ds b)) }
+number_more {minus = minus} {ds} text b h = record { before = h.before; stands = h.stands; place = h.place; printed = ap (λ w. w ++ b ∷ []) h.printed ∙ (append_assoc h.before (with_minus minus ds) (b ∷ []) ∙ ap (λ w. h.before ++ w) (with_minus-snoc minus ds b)) }
 
 -- the first digit
-number_begun : (m : Mode) (ls : List Level) (p : ℕ) (minus : Bool) (text : List ℕ) (b : ℕ) → NumberText ls p minus [] text → is_decimal b ≡ true → Judges text b (go (number_mode p minus b) (state m ls None))
+number_begun : (m : Mode) (ls : List Level) (p : ℕ) (minus : Bool) (text : List ℕ) (b : ℕ) → NumberText ls p minus [] text → is_decimal b ≡ true → Judges text b (to_mode (number_mode p minus b) (state m ls None))
 number_begun m ls p minus text b h decimal = by (b == 48) refl
   where
-    by : (x : Bool) → b == 48 ≡ x → Judges text b (go (cond x (mode.Zero (open_number p minus 0)) (mode.Digits (open_number p minus (b - 48)))) (state m ls None))
+    by : (x : Bool) → b == 48 ≡ x → Judges text b (to_mode (cond x (mode.Zero (open_number p minus 0)) (mode.Digits (open_number p minus (b - 48)))) (state m ls None))
     by true e = r_zero (subst (λ n. NumberText ls p minus (n ∷ []) (text ++ b ∷ [])) (eq_at b 48 e) (number_more text b h))
     by false e = subst (λ k. Reached (text ++ b ∷ []) (state (mode.Digits (open_number p minus k)) ls None)) (small_digit b decimal) (r_digits b [] (number_more text b h) e (decimal, tt))
 
@@ -141,11 +141,11 @@ too_deep ls text b a opens rest refused = record {
   too_deep = λ h. refused (subst (λ w. BeginsFaultless (w ++ b ∷ [])) (take-append_seam text (b ∷ rest)) h);
 }
 
-go_test : (text : List ℕ) (b : ℕ) (r : Reader) (x y : Result Mode JsonFault) (t : Bool) → (t ≡ true → Judges text b (go_if x r)) → (t ≡ false → Judges text b (go_if y r)) → Judges text b (go_if (cond t x y) r)
+go_test : (text : List ℕ) (b : ℕ) (r : Reader) (x y : Result Mode JsonFault) (t : Bool) → (t ≡ true → Judges text b (to_mode_if x r)) → (t ≡ false → Judges text b (to_mode_if y r)) → Judges text b (to_mode_if (cond t x y) r)
 go_test text b r x y true h k = h refl
 go_test text b r x y false h k = k refl
 
-scalar_judged : (m : Mode) (ls : List Level) (text : List ℕ) (b : ℕ) → Awaits ls text → Judges text b (go_if (scalar_mode (length text) b) (state m ls None))
+scalar_judged : (m : Mode) (ls : List Level) (text : List ℕ) (b : ℕ) → Awaits ls text → Judges text b (to_mode_if (scalar_mode (length text) b) (state m ls None))
 scalar_judged m ls text b a =
     let p = length text in
     let r = state m ls None in
@@ -170,13 +170,13 @@ unfolding begin_value
 begin_judged m ls text b a =
     let p = length text in
     let r = state m ls None in
-    test_judged text b (go (text_mode p false) r) (cond (b == 91) (open_level p (level.List p []) mode.FirstItem r) (cond (b == 123) (open_level p (level.Object p []) mode.FirstKey r) (go_if (scalar_mode p b) r))) (b == 34)
+    test_judged text b (to_mode (text_mode p false) r) (cond (b == 91) (open_level p (level.List p []) mode.FirstItem r) (cond (b == 123) (open_level p (level.Object p []) mode.FirstKey r) (to_mode_if (scalar_mode p b) r))) (b == 34)
     (λ e. r_text (record { before = text; stands = a; place = refl; chars = []; are = tt; content_is = refl; spelling = tt; printed = one_more text b 34 e }))
-    (λ n. test_judged text b (open_level p (level.List p []) mode.FirstItem r) (cond (b == 123) (open_level p (level.Object p []) mode.FirstKey r) (go_if (scalar_mode p b) r)) (b == 91)
+    (λ n. test_judged text b (open_level p (level.List p []) mode.FirstItem r) (cond (b == 123) (open_level p (level.Object p []) mode.FirstKey r) (to_mode_if (scalar_mode p b) r)) (b == 91)
     (λ e. test_judged text b (Ok (record r { levels = level.List p [] ∷ ls; mode = mode.FirstItem })) (Err (TooDeep p)) (nat_lt (length ls) MAX_LEVELS)
     (λ l. r_first_item (record { outer = text; stands = a; place = refl; room = below (length ls) MAX_LEVELS l; space = []; white = tt; printed = one_more text b 91 e }))
     (λ l. too_deep ls text b a (inl (eq_at b 91 e))))
-    (λ n. test_judged text b (open_level p (level.Object p []) mode.FirstKey r) (go_if (scalar_mode p b) r) (b == 123)
+    (λ n. test_judged text b (open_level p (level.Object p []) mode.FirstKey r) (to_mode_if (scalar_mode p b) r) (b == 123)
     (λ e. test_judged text b (Ok (record r { levels = level.Object p [] ∷ ls; mode = mode.FirstKey })) (Err (TooDeep p)) (nat_lt (length ls) MAX_LEVELS)
     (λ l. r_first_key (record { outer = text; stands = a; place = refl; room = below (length ls) MAX_LEVELS l; space = []; white = tt; printed = one_more text b 123 e }))
     (λ l. too_deep ls text b a (inr (eq_at b 123 e))))
@@ -185,7 +185,7 @@ begin_judged m ls text b a =
 -- ---- keys
 pub key_judged : (m : Mode) (ls : List Level) (q : ℕ) (members : List Member) (text : List ℕ) (b : ℕ) → KeyAwaits (Awaits ls) (length ls) q members text → Judges text b (begin_key (length text) b (state m (level.Object q members ∷ ls) None))
 key_judged m ls q members text b k =
-    test_judged text b (go (text_mode (length text) true) (state m (level.Object q members ∷ ls) None)) (Err (Syntax (length text))) (b == 34)
+    test_judged text b (to_mode (text_mode (length text) true) (state m (level.Object q members ∷ ls) None)) (Err (Syntax (length text))) (b == 34)
     (λ e. r_key_text (record { before = text; stands = k; place = refl; chars = []; are = tt; content_is = refl; spelling = tt; printed = one_more text b 34 e }))
     (λ n. syntax_at text b (key_awaits_faultless ls text k))
 
@@ -198,10 +198,8 @@ first_awaits ls p text f = record {
   is = [];
   front = f.outer ++ 91 ∷ [];
   inside = record { outer = f.outer; stands = f.stands; place = f.place; room = f.room; are = tt; values = refl; printed = refl };
-  space = f.space;
-  space' = [];
-  white = f.white;
-  white' = tt;
+  gap = gap_of f.space [];
+  white = (f.white, tt);
   printed = f.printed ∙ first_printed f.outer f.space 91;
 }
 
@@ -210,10 +208,8 @@ first_key_awaits ls p text f = record {
   es = [];
   front = f.outer ++ 123 ∷ [];
   inside = record { outer = f.outer; stands = f.stands; place = f.place; room = f.room; are = tt; values = refl; printed = refl };
-  space = f.space;
-  space' = [];
-  white = f.white;
-  white' = tt;
+  gap = gap_of f.space [];
+  white = (f.white, tt);
   printed = f.printed ∙ first_printed f.outer f.space 123;
 }
 
@@ -268,19 +264,19 @@ after_judged text b r (after_all {json = json} h) =
 after_judged text b r (after_item {ls} {p} {items} a) =
     let s = state mode.After (level.List p items ∷ ls) None in
     let no = syntax_at text b (after_faultless text s (after_item a)) in
-    test_judged text b (Ok s) (cond (b == 44) (go mode.Value s) (cond (b == 93) (close_list (length text) s) (cond (b == 125) (close_object (length text) s) (Err (Syntax (length text)))))) (is_blank b)
+    test_judged text b (Ok s) (cond (b == 44) (to_mode mode.Value s) (cond (b == 93) (close_list (length text) s) (cond (b == 125) (close_object (length text) s) (Err (Syntax (length text)))))) (is_blank b)
     (λ e. r_after (after_blank text b s e (after_item a)))
-    (λ n. test_judged text b (go mode.Value s) (cond (b == 93) (close_list (length text) s) (cond (b == 125) (close_object (length text) s) (Err (Syntax (length text))))) (b == 44)
-    (λ e. r_value {ls = level.List p items ∷ ls} (record { is = a.last ∷ a.is; front = a.front; inside = a.inside; space = a.space; space' = []; white = a.white; white' = tt; printed = one_more text b 44 e ∙ (ap (λ w. w ++ 44 ∷ []) a.printed ∙ append_assoc a.front a.space (44 ∷ [])) }))
+    (λ n. test_judged text b (to_mode mode.Value s) (cond (b == 93) (close_list (length text) s) (cond (b == 125) (close_object (length text) s) (Err (Syntax (length text))))) (b == 44)
+    (λ e. r_value {ls = level.List p items ∷ ls} (record { is = a.last ∷ a.is; front = a.front; inside = a.inside; gap = gap_of a.space []; white = (a.white, tt); printed = one_more text b 44 e ∙ (ap (λ w. w ++ 44 ∷ []) a.printed ∙ append_assoc a.front a.space (44 ∷ [])) }))
     (λ n. test_judged text b (close_list (length text) s) (cond (b == 125) (close_object (length text) s) (Err (Syntax (length text)))) (b == 93) (λ e. list_judged mode.After ls p items text b e (item_after_closed text a))
     (λ n. test_judged text b (close_object (length text) s) (Err (Syntax (length text))) (b == 125) (λ e. unfold close_object in no) (λ n. no))))
 after_judged text b r (after_entry {ls} {p} {members} a) =
     let s = state mode.After (level.Object p members ∷ ls) None in
     let no = syntax_at text b (after_faultless text s (after_entry a)) in
-    test_judged text b (Ok s) (cond (b == 44) (go mode.Key s) (cond (b == 93) (close_list (length text) s) (cond (b == 125) (close_object (length text) s) (Err (Syntax (length text)))))) (is_blank b)
+    test_judged text b (Ok s) (cond (b == 44) (to_mode mode.Key s) (cond (b == 93) (close_list (length text) s) (cond (b == 125) (close_object (length text) s) (Err (Syntax (length text)))))) (is_blank b)
     (λ e. r_after (after_blank text b s e (after_entry a)))
-    (λ n. test_judged text b (go mode.Key s) (cond (b == 93) (close_list (length text) s) (cond (b == 125) (close_object (length text) s) (Err (Syntax (length text))))) (b == 44)
-    (λ e. r_key (record { es = a.last ∷ a.es; front = a.front; inside = a.inside; space = a.space; space' = []; white = a.white; white' = tt; printed = one_more text b 44 e ∙ (ap (λ w. w ++ 44 ∷ []) a.printed ∙ append_assoc a.front a.space (44 ∷ [])) }))
+    (λ n. test_judged text b (to_mode mode.Key s) (cond (b == 93) (close_list (length text) s) (cond (b == 125) (close_object (length text) s) (Err (Syntax (length text))))) (b == 44)
+    (λ e. r_key (record { es = a.last ∷ a.es; front = a.front; inside = a.inside; gap = gap_of a.space []; white = (a.white, tt); printed = one_more text b 44 e ∙ (ap (λ w. w ++ 44 ∷ []) a.printed ∙ append_assoc a.front a.space (44 ∷ [])) }))
     (λ n. test_judged text b (close_list (length text) s) (cond (b == 125) (close_object (length text) s) (Err (Syntax (length text)))) (b == 93) (λ e. unfold close_list in no)
     (λ n. test_judged text b (close_object (length text) s) (Err (Syntax (length text))) (b == 125) (λ e. object_judged mode.After ls p members text b e (entry_after_closed text a)) (λ n. no))))
 
@@ -329,12 +325,12 @@ unfolding in_name
 word_judged ls p w n text b h =
     let r = state (mode.Name (open_name p w n)) ls None in
     let place = length text in
-    test_judged text b (cond (n + 1 == length (literal_letters w)) (complete place (literal_value p w) r) (go (mode.Name (open_name p w (n + 1))) r)) (Err (Syntax place)) (nat_lt n (length (literal_letters w)) && (b == letter_at w n))
+    test_judged text b (cond (n + 1 == length (literal_letters w)) (complete place (literal_value p w) r) (to_mode (mode.Name (open_name p w (n + 1))) r)) (Err (Syntax place)) (nat_lt n (length (literal_letters w)) && (b == letter_at w n))
     (λ e.
     let tests = and_both (nat_lt n (length (literal_letters w))) (b == letter_at w n) e in
     let grown : text ++ b ∷ [] ≡ h.before ++ take (n + 1) (literal_letters w) =
     one_more text b (letter_at w n) tests.1 ∙ (ap (λ x. x ++ letter_at w n ∷ []) h.printed ∙ (append_assoc h.before (take n (literal_letters w)) (letter_at w n ∷ []) ∙ ap (λ x. h.before ++ x) (sym (take_more (literal_letters w) n 0 h.short)))) in
-    test_judged text b (complete place (literal_value p w) r) (go (mode.Name (open_name p w (n + 1))) r) (n + 1 == length (literal_letters w))
+    test_judged text b (complete place (literal_value p w) r) (to_mode (mode.Name (open_name p w (n + 1))) r) (n + 1 == length (literal_letters w))
     (λ f.
     let whole : text ++ b ∷ [] ≡ h.before ++ print (word_tree w) = grown ∙ ap (λ x. h.before ++ x) (take_all (n + 1) (literal_letters w) (let same : n + 1 ≡ length (literal_letters w) = eq_at (n + 1) (length (literal_letters w)) f in omega arith) ∙ sym (word_print w)) in
     judged_as text b (complete place (literal_value p w) r) (Ok (finished (literal_value p w) ls None)) (complete_ready place (literal_value p w) (mode.Name (open_name p w n)) ls None (awaits-ready ls h.before h.stands))
@@ -357,23 +353,23 @@ pub digits-snoc : (ds : List ℕ) (b : ℕ) → AreDigits ds → is_decimal b �
 digits-snoc [] b h e = (e, tt)
 digits-snoc (d ∷ ds) b h e = (h.0, digits-snoc ds b h.1 e)
 
-number_front : (ls : List Level) (p : ℕ) (minus : Bool) (ds : List ℕ) (text rest : List ℕ) (h : NumberText ls p minus ds text) → text ++ rest ≡ h.before ++ (signed minus ds ++ rest)
-number_front ls p minus ds text rest h = ap (λ w. w ++ rest) h.printed ∙ append_assoc h.before (signed minus ds) rest
+number_front : (ls : List Level) (p : ℕ) (minus : Bool) (ds : List ℕ) (text rest : List ℕ) (h : NumberText ls p minus ds text) → text ++ rest ≡ h.before ++ (with_minus minus ds ++ rest)
+number_front ls p minus ds text rest h = ap (λ w. w ++ rest) h.printed ∙ append_assoc h.before (with_minus minus ds) rest
 
 pub number_within : (ls : List Level) (p : ℕ) (minus : Bool) (ds : List ℕ) (text rest : List ℕ) → NumberText ls p minus ds text → p ≤ length (text ++ rest)
 number_within ls p minus ds text rest h =
-    omega (arith, h.place, ap length (number_front ls p minus ds text rest h), length-append h.before (signed minus ds ++ rest))
+    omega (arith, h.place, ap length (number_front ls p minus ds text rest h), length-append h.before (with_minus minus ds ++ rest))
 
-pub number_back : (ls : List Level) (p : ℕ) (minus : Bool) (ds : List ℕ) (text rest : List ℕ) → NumberText ls p minus ds text → drop p (text ++ rest) ≡ signed minus ds ++ rest
+pub number_back : (ls : List Level) (p : ℕ) (minus : Bool) (ds : List ℕ) (text rest : List ℕ) → NumberText ls p minus ds text → drop p (text ++ rest) ≡ with_minus minus ds ++ rest
 number_back ls p minus ds text rest h =
     ap (λ n. drop n (text ++ rest)) h.place
-    ∙ (ap (drop (length h.before)) (number_front ls p minus ds text rest h) ∙ drop-append_seam h.before (signed minus ds ++ rest))
+    ∙ (ap (drop (length h.before)) (number_front ls p minus ds text rest h) ∙ drop-append_seam h.before (with_minus minus ds ++ rest))
 
 pub number_awaited : (ls : List Level) (p : ℕ) (minus : Bool) (ds : List ℕ) (text rest : List ℕ) → NumberText ls p minus ds text → AwaitsValue (take p (text ++ rest))
 number_awaited ls p minus ds text rest h =
     subst AwaitsValue
     (sym (ap (λ n. take n (text ++ rest)) h.place
-    ∙ (ap (take (length h.before)) (number_front ls p minus ds text rest h) ∙ take-append_seam h.before (signed minus ds ++ rest))))
+    ∙ (ap (take (length h.before)) (number_front ls p minus ds text rest h) ∙ take-append_seam h.before (with_minus minus ds ++ rest))))
     (awaits_value ls h.before h.stands)
 
 abbrev pub number_stands : (ls : List Level) (p : ℕ) (minus : Bool) (ds : List ℕ) (text rest : List ℕ) → NumberText ls p minus ds text → IsWhole ds → HasNumber (text ++ rest) p
@@ -387,8 +383,8 @@ number_stands ls p minus ds text rest h whole = record {
   awaited = number_awaited ls p minus ds text rest h;
 }
 
-number_bytes : (minus : Bool) (ds : List ℕ) → print (number minus ds [] []) ≡ signed minus ds
-number_bytes minus ds = append-nil (signed minus ds)
+number_bytes : (minus : Bool) (ds : List ℕ) → print (number minus ds [] []) ≡ with_minus minus ds
+number_bytes minus ds = append-nil (with_minus minus ds)
 
 pub number_after : (ls : List Level) (p : ℕ) (minus : Bool) (ds : List ℕ) (text : List ℕ) → NumberText ls p minus ds text → IsWhole ds → fits minus (magnitude ds) ≡ true → AfterValue text (finished (Int p (int_value minus (magnitude ds))) ls None)
 number_after ls p minus ds text h whole fit =
@@ -425,5 +421,5 @@ minus_faultless ls p text h =
 pub minus_judged : (ls : List Level) (p : ℕ) (text : List ℕ) (b : ℕ) → NumberText ls p true [] text → Judges text b (after_minus (length text) p b (state (mode.Minus p) ls None))
 unfolding after_minus
 minus_judged ls p text b h =
-    test_judged text b (go (number_mode p true b) (state (mode.Minus p) ls None)) (Err (Syntax (length text))) (is_decimal b)
+    test_judged text b (to_mode (number_mode p true b) (state (mode.Minus p) ls None)) (Err (Syntax (length text))) (is_decimal b)
     (λ e. number_begun (mode.Minus p) ls p true text b h e) (λ e. syntax_at text b (minus_faultless ls p text h))

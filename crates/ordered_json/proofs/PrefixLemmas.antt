@@ -6,11 +6,11 @@ use Rattle.ordered_json.specs.declared.json.OrderedJson.{OrderedJson}
 use Rattle.ordered_json.specs.declared.level.Level.{Level}
 use Rattle.ordered_json.specs.declared.level.Level.TheVariants as level
 use Rattle.ordered_json.specs.Words.{key_of}
-use Rattle.ordered_json.specs.Grammar.{is_blank, Char, AreChars, IsSpace, print_string, Tree, array, object, no_elements, element, no_members, member, print, lead, IsTree, null, IsPrinted}
+use Rattle.ordered_json.specs.Grammar.{is_blank, Char, AreChars, IsSpace, print_string, Tree, array, object, no_elements, element, no_members, member, print, print_separator, Gap, IsGap, IsTree, null, IsPrinted}
 use Rattle.ordered_json.specs.Meaning.{string_content, value_at, has_key, IsTaken, HasValue}
 use Rattle.ordered_json.specs.Faults.{Begins, BeginsFaultless}
-use Rattle.ordered_json.proofs.States.{Ready}
-use Rattle.ordered_json.proofs.Fronts.{Item, comma_after, print_items, AreItems, item_values, close, print-close, are-close, taken-close, Entry, comma_past, print_entries, entry_keys, AreEntries, entry_values, close_members, keys-entries, print-close_members, are-close_members, taken-close_members}
+use Rattle.ordered_json.proofs.StateLemmas.{Ready}
+use Rattle.ordered_json.proofs.FrontLemmas.{gap_of, key_with, Item, comma_after, print_items, AreItems, item_values, close, print-close, are-close, taken-close, Entry, comma_past, print_entries, entry_keys, AreEntries, entry_values, close_members, keys-entries, print-close_members, are-close_members, taken-close_members}
 
 -- `text` is an open array's up to its last element; `outside` says what stands before its bracket
 pub record ListText (outside : List ℕ → Type 0) (depth p : ℕ) (items : List OrderedJson) (is : List Item) (text : List ℕ) : Type 0 where
@@ -37,22 +37,18 @@ pub record ListAwaits (outside : List ℕ → Type 0) (depth p : ℕ) (items : L
   pub is : List Item
   pub front : List ℕ
   pub inside : ListText outside depth p items is front
-  pub space : List ℕ
-  pub space' : List ℕ
-  pub white : IsSpace space
-  pub white' : IsSpace space'
-  pub printed : text ≡ front ++ lead space (comma_after is) space'
+  pub gap : Gap
+  pub white : IsGap gap
+  pub printed : text ≡ front ++ print_separator gap (comma_after is)
 
 -- a key is awaited
 pub record KeyAwaits (outside : List ℕ → Type 0) (depth p : ℕ) (members : List Member) (text : List ℕ) : Type 0 where
   pub es : List Entry
   pub front : List ℕ
   pub inside : ObjectText outside depth p members es front
-  pub space : List ℕ
-  pub space' : List ℕ
-  pub white : IsSpace space
-  pub white' : IsSpace space'
-  pub printed : text ≡ front ++ lead space (comma_past es) space'
+  pub gap : Gap
+  pub white : IsGap gap
+  pub printed : text ≡ front ++ print_separator gap (comma_past es)
 
 -- a key is read, and white space
 pub record ColonAwaits (outside : List ℕ → Type 0) (depth p : ℕ) (members : List Member) (key : List ℕ) (key_at : ℕ) (text : List ℕ) : Type 0 where
@@ -91,19 +87,17 @@ space-snoc (c ∷ s) b h e = (h.0, space-snoc s b h.1 e)
 pub snoc-two : (a c : List ℕ) (b : ℕ) → (a ++ c) ++ b ∷ [] ≡ a ++ (c ++ b ∷ [])
 snoc-two a c b = append_assoc a c (b ∷ [])
 
-lead-snoc : (s comma s' : List ℕ) (b : ℕ) → lead s comma s' ++ b ∷ [] ≡ lead s comma (s' ++ b ∷ [])
-lead-snoc s comma s' b = append_assoc s (comma ++ s') (b ∷ []) ∙ ap (λ w. s ++ w) (append_assoc comma s' (b ∷ []))
+print_separator-snoc : (g : Gap) (mark : List ℕ) (b : ℕ) → print_separator g mark ++ b ∷ [] ≡ print_separator (gap_of g.before (g.after ++ b ∷ [])) mark
+print_separator-snoc g mark b = append_assoc g.before (mark ++ g.after) (b ∷ []) ∙ ap (λ w. g.before ++ w) (append_assoc mark g.after (b ∷ []))
 
 list_awaits-blank : {outside : List ℕ → Type 0} {depth p : ℕ} {items : List OrderedJson} (text : List ℕ) (b : ℕ) → is_blank b ≡ true → ListAwaits outside depth p items text → ListAwaits outside depth p items (text ++ b ∷ [])
 list_awaits-blank text b e a = record {
   is = a.is;
   front = a.front;
   inside = a.inside;
-  space = a.space;
-  space' = a.space' ++ b ∷ [];
-  white = a.white;
-  white' = space-snoc a.space' b a.white' e;
-  printed = ap (λ w. w ++ b ∷ []) a.printed ∙ (snoc-two a.front (lead a.space (comma_after a.is) a.space') b ∙ ap (λ w. a.front ++ w) (lead-snoc a.space (comma_after a.is) a.space' b));
+  gap = gap_of a.gap.before (a.gap.after ++ b ∷ []);
+  white = (a.white.0, space-snoc a.gap.after b a.white.1 e);
+  printed = ap (λ w. w ++ b ∷ []) a.printed ∙ (snoc-two a.front (print_separator a.gap (comma_after a.is)) b ∙ ap (λ w. a.front ++ w) (print_separator-snoc a.gap (comma_after a.is) b));
 }
 
 pub key_awaits-blank : {outside : List ℕ → Type 0} {depth p : ℕ} {members : List Member} (text : List ℕ) (b : ℕ) → is_blank b ≡ true → KeyAwaits outside depth p members text → KeyAwaits outside depth p members (text ++ b ∷ [])
@@ -111,11 +105,9 @@ key_awaits-blank text b e a = record {
   es = a.es;
   front = a.front;
   inside = a.inside;
-  space = a.space;
-  space' = a.space' ++ b ∷ [];
-  white = a.white;
-  white' = space-snoc a.space' b a.white' e;
-  printed = ap (λ w. w ++ b ∷ []) a.printed ∙ (snoc-two a.front (lead a.space (comma_past a.es) a.space') b ∙ ap (λ w. a.front ++ w) (lead-snoc a.space (comma_past a.es) a.space' b));
+  gap = gap_of a.gap.before (a.gap.after ++ b ∷ []);
+  white = (a.white.0, space-snoc a.gap.after b a.white.1 e);
+  printed = ap (λ w. w ++ b ∷ []) a.printed ∙ (snoc-two a.front (print_separator a.gap (comma_past a.es)) b ∙ ap (λ w. a.front ++ w) (print_separator-snoc a.gap (comma_past a.es) b));
 }
 
 pub colon_awaits-blank : {outside : List ℕ → Type 0} {depth p : ℕ} {members : List Member} {key : List ℕ} {key_at : ℕ} (text : List ℕ) (b : ℕ) → is_blank b ≡ true → ColonAwaits outside depth p members key key_at text → ColonAwaits outside depth p members key key_at (text ++ b ∷ [])
@@ -161,20 +153,20 @@ pub faultless-is : (a b : List ℕ) → a ≡ b → BeginsFaultless a → Begins
 faultless-is a b e h = subst BeginsFaultless e h
 
 -- an array that ends after one more element
-array_with : (depth p : ℕ) (items : List OrderedJson) (text : List ℕ) (outside : List ℕ → Type 0) (a : ListAwaits outside depth p items text) (t : Tree) → text ++ (print t ++ 93 ∷ []) ≡ a.inside.outer ++ print (array (close a.is (element a.space a.space' t (no_elements []))))
+array_with : (depth p : ℕ) (items : List OrderedJson) (text : List ℕ) (outside : List ℕ → Type 0) (a : ListAwaits outside depth p items text) (t : Tree) → text ++ (print t ++ 93 ∷ []) ≡ a.inside.outer ++ print (array (close a.is (element a.gap t (no_elements []))))
 array_with depth p items text outside a t =
-    let l = lead a.space (comma_after a.is) a.space' in
+    let l = print_separator a.gap (comma_after a.is) in
     ap (λ w. w ++ (print t ++ 93 ∷ [])) (a.printed ∙ ap (λ w. w ++ l) a.inside.printed)
     ∙ (append_assoc (a.inside.outer ++ 91 ∷ print_items a.is) l (print t ++ 93 ∷ [])
     ∙ (append_assoc a.inside.outer (91 ∷ print_items a.is) (l ++ (print t ++ 93 ∷ []))
-    ∙ ap (λ w. a.inside.outer ++ 91 ∷ w) (sym (print-close a.is (element a.space a.space' t (no_elements []))))))
+    ∙ ap (λ w. a.inside.outer ++ 91 ∷ w) (sym (print-close a.is (element a.gap t (no_elements []))))))
 
 -- an object that ends after the value of its last key
-object_with : (depth p : ℕ) (members : List Member) (key : List ℕ) (key_at : ℕ) (text : List ℕ) (outside : List ℕ → Type 0) (a : MemberAwaits outside depth p members key key_at text) (t : Tree) → text ++ (print t ++ 125 ∷ []) ≡ a.named.awaited.inside.outer ++ print (object (close_members a.named.awaited.es (member a.named.awaited.space a.named.awaited.space' a.named.chars a.named.gap a.gap' t (no_members []))))
+object_with : (depth p : ℕ) (members : List Member) (key : List ℕ) (key_at : ℕ) (text : List ℕ) (outside : List ℕ → Type 0) (a : MemberAwaits outside depth p members key key_at text) (t : Tree) → text ++ (print t ++ 125 ∷ []) ≡ a.named.awaited.inside.outer ++ print (object (close_members a.named.awaited.es (member a.named.awaited.gap (key_with a.named.chars a.named.gap a.gap') t (no_members []))))
 object_with depth p members key key_at text outside a t =
     let n = a.named in
     let k = a.named.awaited in
-    let l = lead k.space (comma_past k.es) k.space' in
+    let l = print_separator k.gap (comma_past k.es) in
     let s = print_string n.chars in
     let rest = print t ++ 125 ∷ [] in
     ap (λ w. w ++ rest) (a.printed ∙ ap (λ w. w ++ 58 ∷ a.gap') (n.printed ∙ ap (λ w. w ++ (s ++ n.gap)) (k.printed ∙ ap (λ w. w ++ l) k.inside.printed)))
@@ -183,7 +175,7 @@ object_with depth p members key key_at text outside a t =
     ∙ (append_assoc (k.inside.outer ++ 123 ∷ print_entries k.es) l ((s ++ n.gap) ++ 58 ∷ (a.gap' ++ rest))
     ∙ (append_assoc k.inside.outer (123 ∷ print_entries k.es) (l ++ ((s ++ n.gap) ++ 58 ∷ (a.gap' ++ rest)))
     ∙ (ap (λ w. k.inside.outer ++ 123 ∷ (print_entries k.es ++ (l ++ w))) (append_assoc s n.gap (58 ∷ (a.gap' ++ rest)) ∙ ap (λ w. s ++ w) (sym (append_assoc n.gap (58 ∷ a.gap') rest)))
-    ∙ ap (λ w. k.inside.outer ++ 123 ∷ w) (sym (print-close_members k.es (member k.space k.space' n.chars n.gap a.gap' t (no_members [])))))))))
+    ∙ ap (λ w. k.inside.outer ++ 123 ∷ w) (sym (print-close_members k.es (member k.gap (key_with n.chars n.gap a.gap') t (no_members [])))))))))
 
 -- a text that goes on with a value: the rest of a JSON text, in which nothing is refused where nothing is in the value
 pub record Plugged (text : List ℕ) (t : Tree) (depth : ℕ) : Type 0 where
@@ -208,23 +200,23 @@ widened text outer t whole d e bracket bytes taken h = record {
 pub plugged : (ls : List Level) (text : List ℕ) → Awaits ls text → (t : Tree) → IsTree t → Plugged text t (length ls)
 plugged [] text a t h = record { rest = []; before = text; tree = t; after = []; is = record { white_before = a; well_formed = h; white_after = tt; printed = append_assoc text (print t) [] }; taken = λ x. x }
 plugged (level.List p items ∷ ls) text a t h =
-    let last = element a.space a.space' t (no_elements []) in
+    let last = element a.gap t (no_elements []) in
     let whole = array (close a.is last) in
     widened text a.inside.outer t whole (suc (length ls)) (length ls) 93
     (append_assoc text (print t) (93 ∷ []) ∙ array_with (length ls) p items text (Awaits ls) a t)
     (λ taken. (a.inside.room, taken-close (suc (length ls)) a.is last a.inside.are (taken, tt)))
-    (plugged ls a.inside.outer a.inside.stands whole (are-close (suc (length ls)) a.is last a.inside.are (a.white, a.white', h, tt)))
+    (plugged ls a.inside.outer a.inside.stands whole (are-close (suc (length ls)) a.is last a.inside.are (a.white, h, tt)))
 plugged (level.Object p members ∷ ls) text a t h = absurd a
 plugged (level.Member p members key key_at ∷ ls) text a t h =
     let n = a.named in
     let k = a.named.awaited in
-    let last = member k.space k.space' n.chars n.gap a.gap' t (no_members []) in
+    let last = member k.gap (key_with n.chars n.gap a.gap') t (no_members []) in
     let whole = object (close_members k.es last) in
     let fresh : has_key (string_content n.chars) (entry_keys k.es) ≡ false = subst (λ ks. has_key (string_content n.chars) ks ≡ false) (ap (map key_of) k.inside.values ∙ keys-entries (p + 1) k.es) n.fresh in
     widened text k.inside.outer t whole (suc (length ls)) (length ls) 125
     (append_assoc text (print t) (125 ∷ []) ∙ object_with (length ls) p members key key_at text (Awaits ls) a t)
     (λ taken. (k.inside.room, taken-close_members (suc (length ls)) k.es last k.inside.are (fresh, taken, tt)))
-    (plugged ls k.inside.outer k.inside.stands whole (are-close_members (suc (length ls)) k.es last k.inside.are (k.white, k.white', n.are, n.white, a.white', h, tt)))
+    (plugged ls k.inside.outer k.inside.stands whole (are-close_members (suc (length ls)) k.es last k.inside.are (k.white, (n.are, (n.white, a.white')), h, tt)))
 
 pub plug : (ls : List Level) (text : List ℕ) → Awaits ls text → (t : Tree) → IsTree t → IsTaken (length ls) t → BeginsFaultless (text ++ print t)
 plug ls text a t h taken =
@@ -237,9 +229,9 @@ plug_json ls text a t h = let p = plugged ls text a t h in (p.rest, (p.before, p
 -- an object that ends after one more key and `null`, whether it has the key or not
 pub plug_key : (ls : List Level) (q : ℕ) (members : List Member) (text : List ℕ) → KeyAwaits (Awaits ls) (length ls) q members text → (cs : List Char) → AreChars cs → Begins (text ++ print_string cs)
 plug_key ls q members text k cs h =
-    let last = member k.space k.space' cs [] [] null (no_members []) in
+    let last = member k.gap (key_with cs [] []) null (no_members []) in
     let whole = object (close_members k.es last) in
-    let l = lead k.space (comma_past k.es) k.space' in
+    let l = print_separator k.gap (comma_past k.es) in
     let s = print_string cs in
     let tail = 58 ∷ (print null ++ 125 ∷ []) in
     let bytes : text ++ (s ++ tail) ≡ k.inside.outer ++ print whole =
@@ -247,7 +239,7 @@ plug_key ls q members text k cs h =
     ∙ (append_assoc (k.inside.outer ++ 123 ∷ print_entries k.es) l (s ++ tail)
     ∙ (append_assoc k.inside.outer (123 ∷ print_entries k.es) (l ++ (s ++ tail))
     ∙ ap (λ w. k.inside.outer ++ 123 ∷ w) (sym (print-close_members k.es last)))) in
-    let p = plugged ls k.inside.outer k.inside.stands whole (are-close_members (suc (length ls)) k.es last k.inside.are (k.white, k.white', h, tt, tt, tt, tt)) in (
+    let p = plugged ls k.inside.outer k.inside.stands whole (are-close_members (suc (length ls)) k.es last k.inside.are (k.white, (h, (tt, tt)), tt, tt)) in (
       tail ++ p.rest,
       (
         p.before,

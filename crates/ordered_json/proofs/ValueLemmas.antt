@@ -7,13 +7,13 @@ use Rattle.ordered_json.specs.declared.level.Level.TheVariants as level
 use Rattle.ordered_json.specs.declared.mode.Mode.TheVariants as mode
 use Rattle.ordered_json.specs.declared.reader.Reader.{Reader}
 use Rattle.ordered_json.specs.Words.{key_of, member_of}
-use Rattle.ordered_json.specs.Grammar.{Char, AreChars, IsSpace, print_string, Tree, null, array, object, no_elements, no_members, print, lead, key_end, IsTree}
+use Rattle.ordered_json.specs.Grammar.{Char, AreChars, IsSpace, print_string, Tree, null, array, object, no_elements, no_members, print, print_separator, print_colon, IsTree}
 use Rattle.ordered_json.specs.Meaning.{string_content, value_at, has_key, IsTaken, HasValue}
 use Rattle.ordered_json.specs.Faults.{BeginsFaultless, AwaitsValue, AwaitsKey}
-use Rattle.ordered_json.proofs.States.{state, finished}
-use Rattle.ordered_json.proofs.Fronts.{Item, comma_after, print_items, item_values, close, print-close, are-close, taken-close, values-close, Entry, comma_past, print_entries, entry_values, close_members, keys-entries, print-close_members, are-close_members, taken-close_members, values-close_members}
-use Rattle.ordered_json.proofs.Reached.{ListText, ObjectText, KeyAwaits, ColonAwaits, Awaits, awaits-blank, key_awaits-blank, faultless-front, faultless-is, plug}
-use Rattle.ordered_json.proofs.Fresh.{fresh_after}
+use Rattle.ordered_json.proofs.StateLemmas.{state, finished}
+use Rattle.ordered_json.proofs.FrontLemmas.{gap_of, key_with, Item, comma_after, print_items, item_values, close, print-close, are-close, taken-close, values-close, Entry, comma_past, print_entries, entry_values, close_members, keys-entries, print-close_members, are-close_members, taken-close_members, values-close_members}
+use Rattle.ordered_json.proofs.PrefixLemmas.{ListText, ObjectText, KeyAwaits, ColonAwaits, Awaits, awaits-blank, key_awaits-blank, faultless-front, faultless-is, plug}
+use Rattle.ordered_json.proofs.FreshKeyLemmas.{fresh_after}
 
 -- an array that has elements, and white space
 pub record ListAfter (ls : List Level) (p : ℕ) (items : List OrderedJson) (text : List ℕ) : Type 0 where
@@ -52,9 +52,9 @@ item_bytes outer body l t front text bracket f g =
 pub finished_after : (ls : List Level) (text : List ℕ) → Awaits ls text → (t : Tree) → IsTree t → IsTaken (length ls) t → AfterValue (text ++ print t) (finished (value_at (length text) t) ls None)
 finished_after [] text a t h taken = after_all (text, t, [], record { white_before = a; well_formed = h; white_after = tt; printed = ap (λ w. text ++ w) (sym (append-nil (print t))) }, taken, refl)
 finished_after (level.List p items ∷ ls) text a t h taken =
-    let l = lead a.space (comma_after a.is) a.space' in
+    let l = print_separator a.gap (comma_after a.is) in
     after_item (record {
-      last = record { space = a.space; space' = a.space'; tree = t };
+      last = record { gap = a.gap; tree = t };
       is = a.is;
       front = text ++ print t;
       inside = record {
@@ -62,7 +62,7 @@ finished_after (level.List p items ∷ ls) text a t h taken =
         stands = a.inside.stands;
         place = a.inside.place;
         room = a.inside.room;
-        are = (a.inside.are, a.white, a.white', h, taken);
+        are = (a.inside.are, a.white, h, taken);
         values = ap (λ js. js ++ value_at (length text) t ∷ []) a.inside.values ∙ ap (λ n. item_values (p + 1) a.is ++ value_at n t ∷ []) (sym (item_place a.inside.outer a.is l p a.front text a.inside.place a.inside.printed a.printed));
         printed = item_bytes a.inside.outer (print_items a.is) l (print t) a.front text 91 a.inside.printed a.printed;
       };
@@ -74,9 +74,9 @@ finished_after (level.Object p members ∷ ls) text a t h taken = absurd a
 finished_after (level.Member p members key key_at ∷ ls) text a t h taken =
     let n = a.named in
     let k = a.named.awaited in
-    let l = lead k.space (comma_past k.es) k.space' in
+    let l = print_separator k.gap (comma_past k.es) in
     let s = print_string n.chars in
-    let gap = key_end n.gap a.gap' in
+    let gap = print_colon (gap_of n.gap a.gap') in
     let before = print_entries k.es in
     let whole : text ≡ k.inside.outer ++ 123 ∷ (before ++ (l ++ (s ++ gap))) =
     a.printed ∙ (ap (λ w. w ++ 58 ∷ a.gap') (n.printed ∙ item_bytes k.inside.outer before l (s ++ n.gap) k.front n.before 123 k.inside.printed k.printed)
@@ -85,7 +85,7 @@ finished_after (level.Member p members key key_at ∷ ls) text a t h taken =
     let value_place : p + 1 + length (before ++ (l ++ (s ++ gap))) ≡ length text = omega (arith, k.inside.place, ap length whole, length-append k.inside.outer (123 ∷ (before ++ (l ++ (s ++ gap))))) in
     let key_is : key_at ≡ p + 1 + length (before ++ l) = omega (arith, n.place, k.inside.place, ap length k.printed, ap length k.inside.printed, length-append k.front l, length-append k.inside.outer (123 ∷ before), length-append before l) in
     after_entry (record {
-      last = record { space = k.space; space' = k.space'; key = n.chars; gap = n.gap; gap' = a.gap'; tree = t };
+      last = record { gap = k.gap; key = key_with n.chars n.gap a.gap'; tree = t };
       es = k.es;
       front = text ++ print t;
       inside = record {
@@ -93,7 +93,7 @@ finished_after (level.Member p members key key_at ∷ ls) text a t h taken =
         stands = k.inside.stands;
         place = k.inside.place;
         room = k.inside.room;
-        are = (k.inside.are, (k.white, k.white', n.are, n.white, a.white', h), subst (λ ks. has_key (string_content n.chars) ks ≡ false) (ap (map key_of) k.inside.values ∙ keys-entries (p + 1) k.es) n.fresh, taken);
+        are = (k.inside.are, (k.white, (n.are, (n.white, a.white')), h), subst (λ ks. has_key (string_content n.chars) ks ≡ false) (ap (map key_of) k.inside.values ∙ keys-entries (p + 1) k.es) n.fresh, taken);
         values = ap (λ ms. ms ++ member_of key key_at (value_at (length text) t) ∷ []) k.inside.values
             ∙ (ap (λ c. entry_values (p + 1) k.es ++ member_of c key_at (value_at (length text) t) ∷ []) n.key_is
             ∙ (ap (λ c. entry_values (p + 1) k.es ++ member_of (string_content n.chars) c (value_at (length text) t) ∷ []) key_is

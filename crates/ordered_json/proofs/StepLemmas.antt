@@ -7,10 +7,10 @@ use Rattle.ordered_json.specs.declared.reader.Reader.{Reader}
 use Rattle.ordered_json.specs.Words.{key_of}
 use Rattle.ordered_json.specs.Grammar.{is_blank, Char, AreChars, print_string, print}
 use Rattle.ordered_json.specs.Meaning.{string_content, has_key}
-use Rattle.ordered_json.proofs.States.{state, finished}
-use Rattle.ordered_json.proofs.Reached.{KeyAwaits, Awaits, awaits-blank, key_awaits-blank, colon_awaits-blank, awaits-ready, faultless-front, faultless-is, plug}
-use Rattle.ordered_json.proofs.Fresh.{fresh_after}
-use Rattle.std.proofs.Common.{◌≡◌, [], ◌∷◌, ◌++◌, ℕ, ◌+◌, ◌-◌, ◌*◌, ◌^◌, min, Bool, true, false, cond, ◌==◌, ◌⊎◌, inl, inr, List, length, take, drop, map, None, Ok, Err, refl, ap, sym, ◌∙◌, arith, subst, append_assoc, append-nil, length-append}
+use Rattle.ordered_json.proofs.StateLemmas.{state, finished}
+use Rattle.ordered_json.proofs.PrefixLemmas.{KeyAwaits, Awaits, awaits-blank, key_awaits-blank, colon_awaits-blank, awaits-ready, faultless-front, faultless-is, plug}
+use Rattle.ordered_json.proofs.FreshKeyLemmas.{fresh_after}
+use Rattle.std.proofs.Common.{◌≡◌, [], ◌∷◌, ◌++◌, ℕ, ◌-◌, Bool, true, false, cond, ◌==◌, ◌⊎◌, inl, inr, List, length, take, drop, map, None, Ok, Err, refl, ap, sym, ◌∙◌, arith, subst, append_assoc, append-nil, length-append}
 use Rattle.std.specs.Prelude.{encode_utf8}
 use Rattle.std.proofs.Math.Seq.{take-append_seam, drop-append_seam}
 use Rattle.ordered_json.specs.declared.fault.JsonFault.TheVariants.{Syntax, DoubleKey}
@@ -22,15 +22,15 @@ use Rattle.ordered_json.specs.declared.mode.Spelling.TheVariants as at
 use Rattle.ordered_json.specs.Grammar.{is_decimal, print_char, print_chars, string}
 use Rattle.ordered_json.specs.Meaning.{magnitude, fits, char_value}
 use Rattle.ordered_json.specs.Faults.{BeginsFaultless, AwaitsKey, HasDoubleKey}
-use Rattle.ordered_json.specs.Steps.{complete, close_list, close_object, between, begin_value, begin_key, go, take_byte, in_text, spelled_in, end_text, end_key, after_digits, in_digits, open_number, open_text, with_digit}
+use Rattle.ordered_json.specs.Steps.{complete, close_list, close_object, between, begin_value, begin_key, to_mode, take_byte, in_text, spelled_in, end_text, end_key, after_digits, in_digits, open_number, open_text, with_digit}
 use Rattle.ordered_json.specs.Spell.{spell}
-use Rattle.ordered_json.proofs.States.{complete_ready}
-use Rattle.ordered_json.proofs.Numbers.{sat, grow, sat-grow}
-use Rattle.ordered_json.proofs.Strings.{text_state}
-use Rattle.ordered_json.proofs.Spelled.{IsSpelling, IsRight, SpellsChar, CanSpell, spelled_bytes, spell_right, can_spell}
-use Rattle.ordered_json.proofs.Fresh.{string_content-append, print_chars-append, are-append}
-use Rattle.ordered_json.proofs.Values.{AfterValue, after_all, after_item, after_entry, finished_after, named_faultless, colon_awaits_faultless, awaits_key}
-use Rattle.ordered_json.proofs.Judged.{StringText, Reached, r_value, r_first_item, r_first_key, r_key, r_colon, r_after, r_name, r_minus, r_zero, r_digits, r_text, r_key_text, Judges, test_judged, judged_as, syntax_at, one_more, begin_judged, key_judged, first_awaits, first_key_awaits, first_blank, first_closed, first_closed_object, list_judged, object_judged, after_judged, word_judged, fold-snoc, digits-snoc, number_more, digits_judged, minus_judged}
+use Rattle.ordered_json.proofs.StateLemmas.{complete_ready}
+use Rattle.ordered_json.proofs.NumberLemmas.{sat, grow, sat-grow}
+use Rattle.ordered_json.proofs.StringLemmas.{text_state}
+use Rattle.ordered_json.proofs.SpellLemmas.{IsSpelling, IsRight, SpellsChar, CanSpell, spelled_bytes, spell_right, can_spell}
+use Rattle.ordered_json.proofs.FreshKeyLemmas.{string_content-append, print_chars-append, are-append}
+use Rattle.ordered_json.proofs.ValueLemmas.{AfterValue, after_all, after_item, after_entry, finished_after, named_faultless, colon_awaits_faultless, awaits_key}
+use Rattle.ordered_json.proofs.ByteLemmas.{StringText, Reached, r_value, r_first_item, r_first_key, r_key, r_colon, r_after, r_name, r_minus, r_zero, r_digits, r_text, r_key_text, Judges, test_judged, judged_as, syntax_at, one_more, begin_judged, key_judged, first_awaits, first_key_awaits, first_blank, first_closed, first_closed_object, list_judged, object_judged, after_judged, word_judged, fold-snoc, digits-snoc, number_more, digits_judged, minus_judged}
 
 -- ---- strings
 -- the characters that are read, the last one made whole
@@ -174,8 +174,8 @@ reached_step text b r (r_key {ls} {p} {members} k) =
     test_judged text b (Ok s) (begin_key (length text) b s) (is_blank b) (λ e. r_key (key_awaits-blank text b e k)) (λ e. key_judged mode.Key ls p members text b k)
 reached_step text b r (r_colon {ls} {p} {members} {key} {key_at} c) =
     let s = state mode.Colon (level.Member p members key key_at ∷ ls) None in
-    test_judged text b (Ok s) (cond (b == 58) (go mode.Value s) (Err (Syntax (length text)))) (is_blank b) (λ e. r_colon (colon_awaits-blank text b e c))
-    (λ n. test_judged text b (go mode.Value s) (Err (Syntax (length text))) (b == 58)
+    test_judged text b (Ok s) (cond (b == 58) (to_mode mode.Value s) (Err (Syntax (length text)))) (is_blank b) (λ e. r_colon (colon_awaits-blank text b e c))
+    (λ n. test_judged text b (to_mode mode.Value s) (Err (Syntax (length text))) (b == 58)
     (λ e. r_value {ls = level.Member p members key key_at ∷ ls} (record { before = text; named = c; gap' = []; white' = tt; printed = one_more text b 58 e }))
     (λ e. syntax_at text b (colon_awaits_faultless ls text c)))
 reached_step text b r (r_after (after_all h)) = after_judged text b r (after_all h)
@@ -193,7 +193,7 @@ reached_step text b r (r_digits {ls} {p} {minus} d ds h n are) =
     let s = state (mode.Digits (open_number p minus (sat (magnitude (d ∷ ds))))) ls None in
     chosen (is_decimal b) refl
   where
-    chosen : (x : Bool) → is_decimal b ≡ x → Judges text b (cond (is_decimal b) (go (mode.Digits (open_number p minus (with_digit (sat (magnitude (d ∷ ds))) b))) (state (mode.Digits (open_number p minus (sat (magnitude (d ∷ ds))))) ls None)) (after_digits (length text) (open_number p minus (sat (magnitude (d ∷ ds)))) b (state (mode.Digits (open_number p minus (sat (magnitude (d ∷ ds))))) ls None)))
+    chosen : (x : Bool) → is_decimal b ≡ x → Judges text b (cond (is_decimal b) (to_mode (mode.Digits (open_number p minus (with_digit (sat (magnitude (d ∷ ds))) b))) (state (mode.Digits (open_number p minus (sat (magnitude (d ∷ ds))))) ls None)) (after_digits (length text) (open_number p minus (sat (magnitude (d ∷ ds)))) b (state (mode.Digits (open_number p minus (sat (magnitude (d ∷ ds))))) ls None)))
     chosen true e = rw e (subst (λ m. Reached (text ++ b ∷ []) (state (mode.Digits (open_number p minus m)) ls None)) (ap sat (fold-snoc ds (grow 0 d) b) ∙ sym (sat-grow (magnitude (d ∷ ds)) (b - 48))) (r_digits d (ds ++ b ∷ []) (number_more text b h) n (digits-snoc (d ∷ ds) b are e)))
     chosen false e = rw e (digits_judged (mode.Digits (open_number p minus (sat (magnitude (d ∷ ds))))) ls p minus (d ∷ ds) text b h (inr (n, are)) (inl e))
 reached_step text b r (r_text {ls} {p} {s} {c} h) = text_judged ls p s c text b (spell s b) h (spell_right s b h.spelling)
