@@ -1,7 +1,7 @@
 pub mod SizeLemmas
 pub mod CompactLemmas
 pub mod RisingLemmas
-pub mod NamedLemmas
+pub mod NameLemmas
 pub mod SameLemmas
 pub mod PathLemmas
 pub mod EvalLemmas

@@ -8,9 +8,9 @@ use Rattle.xs_model.specs.declared.value.Value.{Value}
 use Rattle.xs_model.specs.declared.value.Value.TheFolds.{every-Value}
 use Rattle.xs_model.specs.declared.value.Value.TheOpen.{Value-F}
 use Rattle.xs_model.specs.Compact.{compact_text}
-use Rattle.xs_model.specs.Eval.{outcome}
+use Rattle.xs_model.specs.Eval.{EnvValues, env_values, evaluation_of}
 use Rattle.xs_model.specs.Rising.{put, get}
-use Rattle.xs_model.specs.Same.{same}
+use Rattle.xs_model.specs.Equality.{same}
 
 -- the test of equality is true exactly where both values are the same value
 abbrev pub EqualityIsOfValues : Type 0
@@ -45,9 +45,9 @@ pub record HasEqualValues (env other : Env) : Type 0 where
   pub params : env.params.now ≡ other.params.now
   pub input : env.input.now ≡ other.input.now
 
--- an equal value gives the same outcome in a value's place
+-- an equal value gives the same evaluation in a value's place
 pub record CopiesEvaluateAlike : Type 0 where
   -- in an environment
-  pub environments : (env other : Env) (expr : Expr) → HasEqualValues env other → outcome env expr ≡ outcome other expr
+  pub environments : (env other : Env) (expr : Expr) → HasEqualValues env other → evaluation_of (env_values env) expr ≡ evaluation_of (env_values other) expr
   -- in a literal
-  pub literals : (env : Env) (value other : Value) → value ≡ other → outcome env (Lit value) ≡ outcome env (Lit other)
+  pub literals : (env : EnvValues) (value other : Value) → value ≡ other → evaluation_of env (Lit value) ≡ evaluation_of env (Lit other)

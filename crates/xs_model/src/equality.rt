@@ -1,5 +1,5 @@
 ghost use Rattle.std.specs.Prelude.{◌≡◌, Decides};
-ghost use Rattle.xs_model.specs.Same.{same};
+ghost use Rattle.xs_model.specs.Equality.{same};
 
 use crate::value::Value;
 

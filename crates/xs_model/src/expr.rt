@@ -4,7 +4,7 @@ use xs_data::{Items, Text};
 
 /// An expression: one variant for each form, with the form's parts as fields; the operators that
 /// evaluate all their operands first are the variants of `Unary` and `Binary`. What each form gives
-/// is `outcome` of `specs/Eval.antt`.
+/// is `evaluation_of` of `specs/Eval.antt`.
 #[derive(Debug, Drop)]
 pub enum Expr {
     /// A scalar, which gives itself.
@@ -17,7 +17,7 @@ pub enum Expr {
     /// The map of what its parts give, which stand in the order of the text.
     Map(Parts),
     /// `{"$context":path}` and the like: what stands at the path.
-    Path(Source, Text),
+    Path(PathRoot, Text),
     /// `{"$or_else":[a,b]}`: what `a` gives, or `b` where `a` finds nothing.
     OrElse(Boxed<Expr>, Boxed<Expr>),
     /// An operator that takes the value of its one operand.
@@ -40,7 +40,7 @@ pub type Parts = Items<(Text, Expr)>;
 
 /// What a path begins in.
 #[derive(Clone, Copy, Debug)]
-pub enum Source {
+pub enum PathRoot {
     Context,
     Event,
     Params,

@@ -54,7 +54,7 @@ pub fn last_put_wins<T>()
     ensures { LastPutWins T }
 {}
 
-/// A copy of a value gives the same outcome in the value's place.
+/// A copy of a value gives the same result in the value's place.
 pub fn copies_evaluate_alike()
     ensures { CopiesEvaluateAlike }
 {}

@@ -226,7 +226,7 @@ fn a_context_is_under_the_same_limits(rt: HostRuntime) -> Result<(), Fail> {
         params: &nothing,
         input: &nothing,
     };
-    let whole = Expr::Path(Source::Context, Text::new(rt.alloc()));
+    let whole = Expr::Path(PathRoot::Context, Text::new(rt.alloc()));
     let found = eval(rt.alloc(), &whole, &env)?;
     assert_eq!(rt; text_len(&found), 65_536);
     let first = Boxed::new(rt.alloc(), whole)?;

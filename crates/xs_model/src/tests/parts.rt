@@ -59,28 +59,28 @@ fn paths_lead_through_lists_and_maps(rt: HostRuntime) -> Result<(), Fail> {
     Ok(())
 }
 
-fn read(alloc: Global, source: Source, path: &str) -> Result<Expr, EvalFault> {
-    Ok(Expr::Path(source, Text::from_str(alloc, path)?))
+fn read(alloc: Global, root: PathRoot, path: &str) -> Result<Expr, EvalFault> {
+    Ok(Expr::Path(root, Text::from_str(alloc, path)?))
 }
 
-// A source, a path and what they give beside a list, a map, a text and a number.
-const READS: [(Source, &str, Wanted); 12] = [
-    (Source::Context, "", Ok(Given::List(&[7, 8]))),
-    (Source::Context, "1", Ok(Given::Int(8))),
-    (Source::Context, "01", Err(EvalFault::Missing)),
-    (Source::Context, "2", Err(EvalFault::Missing)),
-    (Source::Event, "", Ok(Given::Map(&[("0", 9), ("01", 10)]))),
-    (Source::Event, "0", Ok(Given::Int(9))),
-    (Source::Event, "01", Ok(Given::Int(10))),
-    (Source::Event, "1", Err(EvalFault::Missing)),
-    (Source::Params, "", Ok(Given::Text("0"))),
-    (Source::Params, "0", Err(EvalFault::Missing)),
-    (Source::Input, "", Ok(Given::Int(0))),
-    (Source::Input, "0", Err(EvalFault::Missing)),
+// A root, a path and what they give beside a list, a map, a text and a number.
+const READS: [(PathRoot, &str, Wanted); 12] = [
+    (PathRoot::Context, "", Ok(Given::List(&[7, 8]))),
+    (PathRoot::Context, "1", Ok(Given::Int(8))),
+    (PathRoot::Context, "01", Err(EvalFault::Missing)),
+    (PathRoot::Context, "2", Err(EvalFault::Missing)),
+    (PathRoot::Event, "", Ok(Given::Map(&[("0", 9), ("01", 10)]))),
+    (PathRoot::Event, "0", Ok(Given::Int(9))),
+    (PathRoot::Event, "01", Ok(Given::Int(10))),
+    (PathRoot::Event, "1", Err(EvalFault::Missing)),
+    (PathRoot::Params, "", Ok(Given::Text("0"))),
+    (PathRoot::Params, "0", Err(EvalFault::Missing)),
+    (PathRoot::Input, "", Ok(Given::Int(0))),
+    (PathRoot::Input, "0", Err(EvalFault::Missing)),
 ];
 
 #[test]
-fn each_source_is_read_by_its_own_operator(rt: HostRuntime) -> Result<(), Fail> {
+fn each_root_is_read_by_its_own_operator(rt: HostRuntime) -> Result<(), Fail> {
     let context = value(rt.alloc(), Given::List(&[7, 8]))?;
     let event = value(rt.alloc(), Given::Map(&[("01", 10), ("0", 9)]))?;
     let params = value(rt.alloc(), Given::Text("0"))?;
@@ -91,9 +91,9 @@ fn each_source_is_read_by_its_own_operator(rt: HostRuntime) -> Result<(), Fail> 
         params: &params,
         input: &input,
     };
-    for (source, path, wanted) in READS {
-        let answer = eval(rt.alloc(), &read(rt.alloc(), source, path)?, &env);
-        assert!(rt; agrees(rt.alloc(), answer, wanted)?, "{source:?} {path}");
+    for (root, path, wanted) in READS {
+        let answer = eval(rt.alloc(), &read(rt.alloc(), root, path)?, &env);
+        assert!(rt; agrees(rt.alloc(), answer, wanted)?, "{root:?} {path}");
     }
     Ok(())
 }
