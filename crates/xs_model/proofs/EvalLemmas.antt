@@ -6,7 +6,7 @@ use Rattle.xs_model.specs.declared.expr.Expr.TheVariants as expr
 use Rattle.xs_model.specs.declared.value.Value.{Value}
 use Rattle.xs_model.specs.declared.value.Value.TheVariants as value
 use Rattle.xs_model.specs.Rising.{put}
-use Rattle.xs_model.specs.Eval.{EnvValues, Evaluation, evaluation_of, one, value_if_small, collect, member_of, list_of, map_of, Evaluates}
+use Rattle.xs_model.specs.Eval.{Scope, Evaluation, outcome, one, value_if_small, collect, member_of, list_of, map_of, Evaluates}
 
 module _ {X Y : Type 0} (f : X → Result Y EvalFault) (make : List Y → Evaluation) where
   -- what is made of what the parts from a place on give
@@ -40,49 +40,49 @@ module _ {X Y : Type 0} (f : X → Result Y EvalFault) where
 abbrev pub list_from : List Value → List Value → Evaluation
 list_from members rest = Ok (value.List (members ++ rest))
 
-pub evaluation_of-List : (env : EnvValues) (parts : List Expr) → evaluation_of env (expr.List parts) ≡ value_if_small (list_of (map (evaluation_of env) parts))
-evaluation_of-List env parts = search (rules, the_lemmas)
+pub outcome-List : (scope : Scope) (parts : List Expr) → outcome scope (expr.List parts) ≡ value_if_small (list_of (map (outcome scope) parts))
+outcome-List scope parts = search (rules, the_lemmas)
 
-pub list-more : (env : EnvValues) (members : List Value) (parts : List Expr) (place : ℕ) (d : Expr) (x : Value) → place < length parts → evaluation_of env (get_or parts place d) ≡ Ok x
-    → rest_of (evaluation_of env) (list_from members) parts place ≡ rest_of (evaluation_of env) (list_from (members ++ x ∷ [])) parts (suc place)
-list-more env members parts place d x within gives =
-    rest-Ok (evaluation_of env) (list_from members) parts place d x within gives
-    ∙ (λ i. rest_of (evaluation_of env) (λ rest. Ok (value.List (sym (append_assoc members (x ∷ []) rest) i))) parts (suc place))
+pub list-more : (scope : Scope) (members : List Value) (parts : List Expr) (place : ℕ) (d : Expr) (x : Value) → place < length parts → outcome scope (get_or parts place d) ≡ Ok x
+    → rest_of (outcome scope) (list_from members) parts place ≡ rest_of (outcome scope) (list_from (members ++ x ∷ [])) parts (suc place)
+list-more scope members parts place d x within gives =
+    rest-Ok (outcome scope) (list_from members) parts place d x within gives
+    ∙ (λ i. rest_of (outcome scope) (λ rest. Ok (value.List (sym (append_assoc members (x ∷ []) rest) i))) parts (suc place))
 
 -- ---- maps
 
 -- what a part gives, with its key
-abbrev pub part_of : EnvValues → List ℕ × Expr → Result (List ℕ × Value) EvalFault
-part_of env part = member_of (part.0, evaluation_of env part.1)
+abbrev pub part_of : Scope → List ℕ × Expr → Result (List ℕ × Value) EvalFault
+part_of scope part = member_of (part.0, outcome scope part.1)
 
 abbrev pub map_from : List (List ℕ × Value) → List (List ℕ × Value) → Evaluation
 map_from members rest = Ok (value.Map (fold (λ done member. put done member.0 member.1) members rest))
 
-map-keyed : (env : EnvValues) (parts : List (List ℕ × Expr)) → map member_of (map (λ part. (part.0, evaluation_of env part.1)) parts) ≡ map (part_of env) parts
-map-keyed env [] = refl
-map-keyed env (part ∷ parts) = ap (λ rest. part_of env part ∷ rest) (map-keyed env parts)
+map-keyed : (scope : Scope) (parts : List (List ℕ × Expr)) → map member_of (map (λ part. (part.0, outcome scope part.1)) parts) ≡ map (part_of scope) parts
+map-keyed scope [] = refl
+map-keyed scope (part ∷ parts) = ap (λ rest. part_of scope part ∷ rest) (map-keyed scope parts)
 
-pub evaluation_of-Map : (env : EnvValues) (parts : List (List ℕ × Expr)) → evaluation_of env (expr.Map parts) ≡ value_if_small (map_of (map (λ part. (part.0, evaluation_of env part.1)) parts))
-evaluation_of-Map env parts = search (rules, the_lemmas)
+pub outcome-Map : (scope : Scope) (parts : List (List ℕ × Expr)) → outcome scope (expr.Map parts) ≡ value_if_small (map_of (map (λ part. (part.0, outcome scope part.1)) parts))
+outcome-Map scope parts = search (rules, the_lemmas)
 
-pub map-start : (env : EnvValues) (parts : List (List ℕ × Expr)) → map_of (map (λ part. (part.0, evaluation_of env part.1)) parts) ≡ rest_of (part_of env) (map_from []) parts 0
-map-start env parts = ap (λ outs. one (collect outs) (map_from [])) (map-keyed env parts)
+pub map-start : (scope : Scope) (parts : List (List ℕ × Expr)) → map_of (map (λ part. (part.0, outcome scope part.1)) parts) ≡ rest_of (part_of scope) (map_from []) parts 0
+map-start scope parts = ap (λ outs. one (collect outs) (map_from [])) (map-keyed scope parts)
 
-part-Ok : (env : EnvValues) (part : List ℕ × Expr) (x : Value) → evaluation_of env part.1 ≡ Ok x → part_of env part ≡ Ok (part.0, x)
-part-Ok env part x gives = rw gives refl
+part-Ok : (scope : Scope) (part : List ℕ × Expr) (x : Value) → outcome scope part.1 ≡ Ok x → part_of scope part ≡ Ok (part.0, x)
+part-Ok scope part x gives = rw gives refl
 
-part-Err : (env : EnvValues) (part : List ℕ × Expr) (fault : EvalFault) → evaluation_of env part.1 ≡ Err fault → part_of env part ≡ Err fault
-part-Err env part fault gives = rw gives refl
+part-Err : (scope : Scope) (part : List ℕ × Expr) (fault : EvalFault) → outcome scope part.1 ≡ Err fault → part_of scope part ≡ Err fault
+part-Err scope part fault gives = rw gives refl
 
-pub map-more : (env : EnvValues) (members : List (List ℕ × Value)) (parts : List (List ℕ × Expr)) (place : ℕ) (part : List ℕ × Expr) (x : Value) → place < length parts → part ≡ get_or parts place part → evaluation_of env part.1 ≡ Ok x
-    → rest_of (part_of env) (map_from members) parts place ≡ rest_of (part_of env) (map_from (put members part.0 x)) parts (suc place)
-map-more env members parts place part x within is gives =
-    rest-Ok (part_of env) (map_from members) parts place part (part.0, x) within (ap (part_of env) (sym is) ∙ part-Ok env part x gives)
+pub map-more : (scope : Scope) (members : List (List ℕ × Value)) (parts : List (List ℕ × Expr)) (place : ℕ) (part : List ℕ × Expr) (x : Value) → place < length parts → part ≡ get_or parts place part → outcome scope part.1 ≡ Ok x
+    → rest_of (part_of scope) (map_from members) parts place ≡ rest_of (part_of scope) (map_from (put members part.0 x)) parts (suc place)
+map-more scope members parts place part x within is gives =
+    rest-Ok (part_of scope) (map_from members) parts place part (part.0, x) within (ap (part_of scope) (sym is) ∙ part-Ok scope part x gives)
 
-pub map-stops : (env : EnvValues) (members : List (List ℕ × Value)) (parts : List (List ℕ × Expr)) (place : ℕ) (part : List ℕ × Expr) (fault : EvalFault) → place < length parts → part ≡ get_or parts place part → evaluation_of env part.1 ≡ Err fault
-    → rest_of (part_of env) (map_from members) parts place ≡ Err fault
-map-stops env members parts place part fault within is gives =
-    rest-Err (part_of env) (map_from members) parts place part fault within (ap (part_of env) (sym is) ∙ part-Err env part fault gives)
+pub map-stops : (scope : Scope) (members : List (List ℕ × Value)) (parts : List (List ℕ × Expr)) (place : ℕ) (part : List ℕ × Expr) (fault : EvalFault) → place < length parts → part ≡ get_or parts place part → outcome scope part.1 ≡ Err fault
+    → rest_of (part_of scope) (map_from members) parts place ≡ Err fault
+map-stops scope members parts place part fault within is gives =
+    rest-Err (part_of scope) (map_from members) parts place part fault within (ap (part_of scope) (sym is) ∙ part-Err scope part fault gives)
 
 -- ---- limits
 

@@ -8,7 +8,6 @@ pub mod EvalLemmas
 pub mod PartLemmas
 pub mod EqualityLemmas
 pub mod PutLemmas
-pub mod CopyLemmas
 pub mod SpellingLemmas
 pub mod TextLemmas
 pub mod NumberLemmas

@@ -31,16 +31,16 @@ use Rattle.xs_model.specs.Paths.{at_path}
 use Rattle.xs_model.specs.Rising.{put}
 use Rattle.xs_model.specs.Equality.{same}
 
--- the values that an expression reads
-pub record EnvValues : Type 0 where
+-- the four values that an expression reads
+pub record Scope : Type 0 where
   pub context : Value
   pub event : Value
   pub params : Value
   pub input : Value
 
 -- the values that an environment lends
-abbrev pub env_values : Env → EnvValues
-env_values env = record { context = env.context.now; event = env.event.now; params = env.params.now; input = env.input.now }
+abbrev pub scope_of : Env → Scope
+scope_of env = record { context = env.context.now; event = env.event.now; params = env.params.now; input = env.input.now }
 
 -- what an evaluation gives: a value or a fault
 abbrev pub Evaluation : Type 0
@@ -81,11 +81,11 @@ value_or_missing None = Err Missing
 value_or_missing (Some x) = Ok x
 
 -- what a path begins in
-abbrev pub root_value : PathRoot → EnvValues → Value
-root_value Context env = env.context
-root_value Event env = env.event
-root_value Params env = env.params
-root_value Input env = env.input
+abbrev pub root_value : PathRoot → Scope → Value
+root_value Context scope = scope.context
+root_value Event scope = scope.event
+root_value Params scope = scope.params
+root_value Input scope = scope.input
 
 -- b where a finds nothing
 abbrev pub or_else : Evaluation → Evaluation → Evaluation
@@ -194,20 +194,20 @@ map_of parts = one (collect (map member_of parts)) (λ members. Ok (value.Map (m
 -- ---- the table
 
 -- what an expression gives, before the limits, whose parts give these outcomes
-abbrev pub row : EnvValues → Expr-F Evaluation → Evaluation
-row env Expr-F.Null = Ok value.Null
-row env (Expr-F.Bool b) = Ok (value.Bool b)
-row env (Expr-F.Int n) = Ok (value.Int n)
-row env (Expr-F.Text text) = Ok (value.Text text)
-row env (Expr-F.List parts) = list_of parts
-row env (Expr-F.Map parts) = map_of parts
-row env (Expr-F.Path root path) = value_or_missing (at_path path (root_value root env))
-row env (Expr-F.OrElse a b) = or_else a b
-row env (Expr-F.Unary op a) = one a (λ x. unary op (out-Value x))
-row env (Expr-F.Binary op a b) = both a b (λ x y. binary op x y)
-row env (Expr-F.Connect op a b) = one (truth_of a) (λ first. connect op first b)
-row env (Expr-F.If c a b) = one (truth_of c) (λ yes. if yes then a else b)
-row env (Expr-F.Lit x) = Ok x
+abbrev pub row : Scope → Expr-F Evaluation → Evaluation
+row scope Expr-F.Null = Ok value.Null
+row scope (Expr-F.Bool b) = Ok (value.Bool b)
+row scope (Expr-F.Int n) = Ok (value.Int n)
+row scope (Expr-F.Text text) = Ok (value.Text text)
+row scope (Expr-F.List parts) = list_of parts
+row scope (Expr-F.Map parts) = map_of parts
+row scope (Expr-F.Path root path) = value_or_missing (at_path path (root_value root scope))
+row scope (Expr-F.OrElse a b) = or_else a b
+row scope (Expr-F.Unary op a) = one a (λ x. unary op (out-Value x))
+row scope (Expr-F.Binary op a b) = both a b (λ x y. binary op x y)
+row scope (Expr-F.Connect op a b) = one (truth_of a) (λ first. connect op first b)
+row scope (Expr-F.If c a b) = one (truth_of c) (λ yes. if yes then a else b)
+row scope (Expr-F.Lit x) = Ok x
 
 -- a scalar has no limit of its own
 abbrev pub is_scalar : {X : Type 0} → Expr-F X → Bool
@@ -218,12 +218,12 @@ is_scalar (Expr-F.Text text) = true
 is_scalar _ = false
 
 -- what an expression gives whose parts give these outcomes
-abbrev pub within_limits : EnvValues → Expr-F Evaluation → Evaluation
-within_limits env layer = if is_scalar layer then row env layer else value_if_small (row env layer)
+abbrev pub within_limits : Scope → Expr-F Evaluation → Evaluation
+within_limits scope layer = if is_scalar layer then row scope layer else value_if_small (row scope layer)
 
 -- what an expression gives
-abbrev pub evaluation_of : EnvValues → Expr → Evaluation
-evaluation_of env = fold-Expr Evaluation (within_limits env)
+abbrev pub outcome : Scope → Expr → Evaluation
+outcome scope = fold-Expr Evaluation (within_limits scope)
 
 -- the result is this evaluation, unless there was no memory
 abbrev pub Evaluates : {X : Type 0} → Result X EvalFault → Result X EvalFault → Type 0

@@ -2,7 +2,7 @@
 
 ghost use Rattle.std.specs.Prelude.{◌≡◌, OnOk, IfErr, map};
 ghost use Rattle.xs_model.specs.Eval as spec;
-ghost use Rattle.xs_model.specs.Eval.{Evaluates, env_values, evaluation_of};
+ghost use Rattle.xs_model.specs.Eval.{Evaluates, scope_of, outcome};
 ghost use Rattle.xs_model.specs.Rising.{put};
 
 use crate::copies::copy;
@@ -24,7 +24,7 @@ use xs_data::{Items, Text};
 /// 65,536 bytes or ends the evaluation.
 #[cycle(eval)]
 pub fn eval(alloc: Global, expr: &Expr, env: &Env<'_>) -> Result<Value, EvalFault>
-    ensures { Evaluates result (evaluation_of (env_values env.now) expr.now) }
+    ensures { Evaluates result (outcome (scope_of env.now) expr.now) }
 {
     match expr {
         Expr::Null => Ok(Value::Null),
@@ -68,7 +68,7 @@ pub fn eval(alloc: Global, expr: &Expr, env: &Env<'_>) -> Result<Value, EvalFaul
 // The list of what the parts give.
 #[cycle(eval)]
 fn list_of(alloc: Global, parts: &Exprs, env: &Env<'_>) -> Result<Value, EvalFault>
-    ensures { Evaluates result (spec.list_of (map (evaluation_of (env_values env.now)) parts.now)) }
+    ensures { Evaluates result (spec.list_of (map (outcome (scope_of env.now)) parts.now)) }
 {
     let mut members = Vec::with_capacity(alloc, parts.len())?;
     for part in parts.as_slice() {
@@ -81,7 +81,7 @@ fn list_of(alloc: Global, parts: &Exprs, env: &Env<'_>) -> Result<Value, EvalFau
 #[cycle(eval)]
 fn map_of(alloc: Global, parts: &Parts, env: &Env<'_>) -> Result<Value, EvalFault>
     ensures { Evaluates result
-        (spec.map_of (map (λ part. (part.0, evaluation_of (env_values env.now) part.1)) parts.now)) }
+        (spec.map_of (map (λ part. (part.0, outcome (scope_of env.now) part.1)) parts.now)) }
 {
     let mut members = Entries::new(alloc);
     for (key, part) in parts.as_slice() {

@@ -4,7 +4,7 @@ use xs_data::{Items, Text};
 
 /// An expression: one variant for each form, with the form's parts as fields; the operators that
 /// evaluate all their operands first are the variants of `Unary` and `Binary`. What each form gives
-/// is `evaluation_of` of `specs/Eval.antt`.
+/// is `outcome` of `specs/Eval.antt`.
 #[derive(Debug, Drop)]
 pub enum Expr {
     /// A scalar, which gives itself.

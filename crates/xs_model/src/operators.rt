@@ -3,7 +3,7 @@
 ghost use Rattle.std.specs.Prelude.{◌≡◌};
 ghost use Rattle.xs_model.specs.declared.value.Value.{out-Value};
 ghost use Rattle.xs_model.specs.Eval as spec;
-ghost use Rattle.xs_model.specs.Eval.{Evaluates, env_values};
+ghost use Rattle.xs_model.specs.Eval.{Evaluates, scope_of};
 
 use crate::env::{Env, EvalFault};
 use crate::equality::same;
@@ -27,7 +27,7 @@ pub(crate) fn value_if_small(answer: Result<Value, EvalFault>) -> Result<Value, 
 }
 
 pub(crate) fn root_value<'a>(root: PathRoot, env: &Env<'a>) -> &'a Value
-    ensures { result.now ≡ spec.root_value root (env_values env.now) }
+    ensures { result.now ≡ spec.root_value root (scope_of env.now) }
 {
     match root {
         PathRoot::Context => env.context,
