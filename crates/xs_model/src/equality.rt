@@ -1,3 +1,5 @@
+//! Whether two values are equal.
+
 ghost use Rattle.std.specs.Prelude.{◌≡◌, Decides};
 ghost use Rattle.xs_model.specs.Equality.{same};
 

@@ -65,7 +65,7 @@ pub fn eval(alloc: Global, expr: &Expr, env: &Env<'_>) -> Result<Value, EvalFaul
     }
 }
 
-// The list of what the parts give.
+/// The list of what the parts give.
 #[cycle(eval)]
 fn list_of(alloc: Global, parts: &Exprs, env: &Env<'_>) -> Result<Value, EvalFault>
     ensures { Evaluates result (spec.list_of (map (outcome (scope_of env.now)) parts.now)) }
@@ -77,7 +77,7 @@ fn list_of(alloc: Global, parts: &Exprs, env: &Env<'_>) -> Result<Value, EvalFau
     Ok(Value::List(Items::from_vec(members)))
 }
 
-// The map of what the parts give.
+/// The map of what the parts give.
 #[cycle(eval)]
 fn map_of(alloc: Global, parts: &Parts, env: &Env<'_>) -> Result<Value, EvalFault>
     ensures { Evaluates result
@@ -91,7 +91,7 @@ fn map_of(alloc: Global, parts: &Parts, env: &Env<'_>) -> Result<Value, EvalFaul
     Ok(Value::Map(members))
 }
 
-// Puts what a part of a map gives under a copy of its key.
+/// Puts what a part of a map gives under a copy of its key.
 fn put_part(alloc: Global, members: &mut Fields, key: &Text, value: Value) -> Result<(), EvalFault>
     ensures ok { OnOk result (members.new ≡ put members.old key.now value) }
     ensures err { IfErr result (λ fault. fault ≡ EvalFault.Memory) }

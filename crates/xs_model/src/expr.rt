@@ -1,3 +1,5 @@
+//! Expressions.
+
 use crate::value::Value;
 use sqlite_items::Boxed;
 use xs_data::{Items, Text};

@@ -157,7 +157,7 @@ fn append(x: Value, y: Value) -> Result<Value, EvalFault>
     }
 }
 
-// Whether the first operand's truth value is that of the whole.
+/// Whether the first operand's truth value is that of the whole.
 pub(crate) fn decides(op: Connective, first: bool) -> bool
     ensures { result ≡ spec.decides op first }
 {

@@ -22,7 +22,7 @@ pub fn at_path<'a>(value: &'a Value, path: &str) -> Option<&'a Value>
     path_step(reached, rest)
 }
 
-// What a key finds in a value.
+/// What a key finds in a value.
 fn path_step<'a>(value: &'a Value, key: &str) -> Option<&'a Value>
     ensures { option_copied result ≡ path_step key.now value.now }
 {
@@ -33,7 +33,7 @@ fn path_step<'a>(value: &'a Value, key: &str) -> Option<&'a Value>
     }
 }
 
-// The number that a key is the decimal of.
+/// The number that a key is the decimal of.
 fn place_of_key(key: &str) -> Option<usize>
     ensures { MatchOption result ((n : ℕ) → n < 2 ^ 63 → decimal n ≢ key.now)
         (λ n. (decimal n ≡ key.now) × (n < 2 ^ 64)) }

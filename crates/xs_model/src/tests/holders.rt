@@ -16,7 +16,7 @@ fn a_copy_is_equal(rt: HostRuntime) -> Result<(), Fail> {
     Ok(())
 }
 
-// Keys in the order in which they are put.
+/// Keys in the order in which they are put.
 const PUT: [(&str, u8); 6] = [
     ("b", 1),
     ("", 2),
@@ -26,7 +26,7 @@ const PUT: [(&str, u8); 6] = [
     ("b", 6),
 ];
 
-// The same keys sorted by their bytes, each with what was put last.
+/// The same keys sorted by their bytes, each with what was put last.
 const SORTED: [(&str, u8); 5] = [("", 2), ("a", 4), ("ab", 3), ("b", 6), ("\u{e9}", 5)];
 
 #[test]
@@ -51,7 +51,7 @@ fn entries_are_sorted_and_keep_the_last(rt: HostRuntime) -> Result<(), Fail> {
     Ok(())
 }
 
-// Names in the order in which they are put, which is not that of their bytes.
+/// Names in the order in which they are put, which is not that of their bytes.
 const NAMED: [(&str, u8); 4] = [("b", 1), ("", 2), ("\u{e9}", 3), ("a", 4)];
 
 #[test]

@@ -6,7 +6,7 @@ use std::alloc::Global;
 use std::test::Fail;
 use xs_data::Items;
 
-// {"":30,"a":[10,{"b":20}],"a.b":40}
+/// {"":30,"a":[10,{"b":20}],"a.b":40}
 fn sample(alloc: Global) -> Result<Value, EvalFault> {
     let mut members = Vec::new(alloc);
     members.push(Value::Int(10))?;
@@ -23,7 +23,7 @@ fn sample(alloc: Global) -> Result<Value, EvalFault> {
     Ok(Value::Map(whole))
 }
 
-// A step into a list is a place from 0 in decimal without leading zeros, and nothing else.
+/// A step into a list is a place from 0 in decimal without leading zeros, and nothing else.
 const PATHS: [(&str, Option<i64>); 17] = [
     ("a.0", Some(10)),
     ("a.1.b", Some(20)),
@@ -63,7 +63,7 @@ fn read(alloc: Global, root: PathRoot, path: &str) -> Result<Expr, EvalFault> {
     Ok(Expr::Path(root, Text::from_str(alloc, path)?))
 }
 
-// A root, a path and what they give beside a list, a map, a text and a number.
+/// A root, a path and what they give beside a list, a map, a text and a number.
 const READS: [(PathRoot, &str, Wanted); 12] = [
     (PathRoot::Context, "", Ok(Given::List(&[7, 8]))),
     (PathRoot::Context, "1", Ok(Given::Int(8))),
@@ -98,7 +98,7 @@ fn each_root_is_read_by_its_own_operator(rt: HostRuntime) -> Result<(), Fail> {
     Ok(())
 }
 
-// Scalars, lists, maps and literals give themselves.
+/// Scalars, lists, maps and literals give themselves.
 #[test]
 fn data_gives_itself(rt: HostRuntime) -> Result<(), Fail> {
     let rows = [
@@ -129,7 +129,7 @@ fn list_of(alloc: Global, a: Given, b: Given) -> Result<Expr, EvalFault> {
     Ok(Expr::List(Items::from_vec(parts)))
 }
 
-// A map whose first part in the text has the greater key.
+/// A map whose first part in the text has the greater key.
 fn map_of(alloc: Global, a: Given, b: Given) -> Result<Expr, EvalFault> {
     let mut parts = Vec::new(alloc);
     parts.push((Text::from_str(alloc, "z")?, expr(alloc, a)?))?;
@@ -137,7 +137,7 @@ fn map_of(alloc: Global, a: Given, b: Given) -> Result<Expr, EvalFault> {
     Ok(Expr::Map(Items::from_vec(parts)))
 }
 
-// Two parts in the order of the text, and the first fault.
+/// Two parts in the order of the text, and the first fault.
 const PARTS: [(Given, Given, EvalFault); 4] = [
     (Given::Missing, Given::OutOfRange, EvalFault::Missing),
     (Given::OutOfRange, Given::Missing, EvalFault::Range),
