@@ -5,7 +5,7 @@ use Rattle.std.proofs.lemmas.Bool.Decides.{Decides-int_eq, Decides-at}
 use Rattle.std.proofs.lemmas.Slice.Eq.{bytes_eq-Decides}
 use Rattle.xs_model.proofs.PartLemmas.{Parts, by_parts}
 use Rattle.xs_model.proofs.SameLemmas.{member_same, map-both_pass}
-use Rattle.xs_model.specs.Same.{pass_in_turn, same_layer, same}
+use Rattle.xs_model.specs.Equality.{pass_in_turn, same_layer, same}
 use Rattle.xs_model.specs.declared.value.Value.{Value, out-Value}
 use Rattle.xs_model.specs.declared.value.Value.TheFolds.{map-Value, fold-roll-Value}
 use Rattle.xs_model.specs.declared.value.Value.TheOpen.{Value-F}

@@ -1,14 +1,13 @@
 pub mod SizeLemmas
 pub mod CompactLemmas
 pub mod RisingLemmas
-pub mod NamedLemmas
+pub mod NameLemmas
 pub mod SameLemmas
 pub mod PathLemmas
 pub mod EvalLemmas
 pub mod PartLemmas
 pub mod EqualityLemmas
 pub mod PutLemmas
-pub mod CopyLemmas
 pub mod SpellingLemmas
 pub mod TextLemmas
 pub mod NumberLemmas

@@ -4,7 +4,7 @@ use Rattle.std.specs.List.{slice_split, onto_first, before_first, after_first, p
 use Rattle.std.proofs.lemmas.Bool.{false_from_ne_true}
 use Rattle.std.proofs.lemmas.Slice.Eq.{bytes_eq-Decides}
 use Rattle.std.proofs.lemmas.Str.Pattern.{IsSplitOnceResult, split_once_first}
-use Rattle.xs_model.specs.Paths.{member_at, step, walk}
+use Rattle.xs_model.specs.Paths.{member_at, path_step, walk}
 use Rattle.xs_model.specs.declared.value.Value.{Value, the_lemmas}
 use Rattle.xs_model.specs.declared.value.Value.TheVariants as value
 use Rattle.std.specs.Result.{result_ok}
@@ -104,10 +104,10 @@ module _ (p : ℕ → Bool) where
       cases rest true within = refl
       cases rest false within = rw (rest (omega (arith, within)), one-add (position_or_len p xs), suc-add (position_or_len p xs) 1) refl
 
--- ---- one step
+-- ---- one path_step
 
-pub step-List : (key : List ℕ) (members : List Value) → step key (value.List members) ≡ member_at key 0 members
-step-List key members = search (rules, the_lemmas)
+pub path_step-List : (key : List ℕ) (members : List Value) → path_step key (value.List members) ≡ member_at key 0 members
+path_step-List key members = search (rules, the_lemmas)
 
 -- ---- the keys of a path, one at a time
 
@@ -126,14 +126,14 @@ uncut text r result is =
     split-none is_dot text (subst (λ r. MatchOption r (position_or_len is_dot text ≡ length text) (λ x. (position_or_len is_dot text < length text) × (x.0.now ≡ before_first is_dot text) × (x.1.now ≡ after_first is_dot text))) is
     (split_once_first 46 text r result (omega arith)))
 
-pub walk-missing : (key : List ℕ) (keys : List (List ℕ)) (v : Value) → None ≡ step key v → walk (key ∷ keys) v ≡ None
+pub walk-missing : (key : List ℕ) (keys : List (List ℕ)) (v : Value) → None ≡ path_step key v → walk (key ∷ keys) v ≡ None
 walk-missing key keys v e = ap (option_and_then (walk keys)) (sym e)
 
-pub walk-found : (key : List ℕ) (keys : List (List ℕ)) (v w : Value) → Some w ≡ step key v → walk (key ∷ keys) v ≡ walk keys w
+pub walk-found : (key : List ℕ) (keys : List (List ℕ)) (v w : Value) → Some w ≡ path_step key v → walk (key ∷ keys) v ≡ walk keys w
 walk-found key keys v w e = ap (option_and_then (walk keys)) (sym e)
 
-pub walk-last : (key : List ℕ) (v : Value) → walk (key ∷ []) v ≡ step key v
-walk-last key v = same (step key v)
+pub walk-last : (key : List ℕ) (v : Value) → walk (key ∷ []) v ≡ path_step key v
+walk-last key v = same (path_step key v)
   where
     same : (o : Option Value) → option_and_then (λ w. Some w) o ≡ o
     same None = refl

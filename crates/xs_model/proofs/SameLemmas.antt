@@ -1,6 +1,6 @@
 -- The test whether two values are equal, layer by layer.
 use Rattle.std.proofs.Common.{◌≡◌, ◌≢◌, ℕ, zero, suc, ◌<◌, Bool, true, false, ◌&&◌, List, [], ◌∷◌, length, map, get_or, drop, refl, ap, ◌∙◌, arith, rules}
-use Rattle.xs_model.specs.Same.{pass_in_turn, both_pass, same}
+use Rattle.xs_model.specs.Equality.{pass_in_turn, both_pass, same}
 use Rattle.xs_model.specs.declared.value.Value.{Value, the_lemmas}
 use Rattle.xs_model.specs.declared.value.Value.TheVariants as value
 

@@ -7,7 +7,7 @@ use Rattle.std.proofs.lemmas.Fmt.{decimal_is_IsNumeral}
 use Rattle.xs_model.proofs.CompactLemmas.{map-keyed}
 use Rattle.xs_model.proofs.PartLemmas.{Parts, by_parts, parts_every}
 use Rattle.xs_model.proofs.SpellingLemmas.{EndsNumber, numbers_end, quoted_end}
-use Rattle.xs_model.specs.Compact.{quoted_text, bracketed, layer_text, compact_text, keyed_text}
+use Rattle.xs_model.specs.Compact.{quoted_text, bracketed_text, layer_text, compact_text, keyed_text}
 use Rattle.xs_model.specs.Laws.{IsOf64Bits, HasNumbersOf64Bits, CompactTextIsInjective}
 use Rattle.xs_model.specs.declared.value.Value.{Value, out-Value}
 use Rattle.xs_model.specs.declared.value.Value.TheFolds.{map-Value, fold-roll-Value, fold_out-Value, every_here-Value}
@@ -58,7 +58,7 @@ module _ {X : Type 0} (Fit : X → Type 0) (text : X → List ℕ) (closing : �
       (λ i. one.0 i ∷ more.0 i, more.1)
 
 -- in brackets
-unbracketed : (opening closing : ℕ) (pieces others : List (List ℕ)) (r s : List ℕ) → bracketed opening closing pieces ++ r ≡ bracketed opening closing others ++ s
+unbracketed : (opening closing : ℕ) (pieces others : List (List ℕ)) (r s : List ℕ) → bracketed_text opening closing pieces ++ r ≡ bracketed_text opening closing others ++ s
     → join_with_byte 44 pieces ++ closing ∷ r ≡ join_with_byte 44 others ++ closing ∷ s
 unbracketed opening closing pieces others r s e =
     let inner : (join_with_byte 44 pieces ++ closing ∷ []) ++ r ≡ (join_with_byte 44 others ++ closing ∷ []) ++ s = cc in
@@ -153,8 +153,8 @@ layers_tell (Value-F.List xs) (Value-F.List ys) r s told ix iy px py p q e =
     let parts = pieces_tell HasNumbersOf64Bits compact_text 93 (λ e. omega arith) (omega arith) no_bracket xs ys r s told px py inner in
     (ap Value-F.List parts.0, parts.1)
 layers_tell (Value-F.Map xs) (Value-F.Map ys) r s told ix iy px py p q e =
-    let keyed : bracketed 123 125 (map keyed_text xs) ++ r ≡ bracketed 123 125 (map keyed_text ys) ++ s =
-    ap (λ texts. bracketed 123 125 texts ++ r) (sym (map-keyed xs)) ∙ e ∙ ap (λ texts. bracketed 123 125 texts ++ s) (map-keyed ys) in
+    let keyed : bracketed_text 123 125 (map keyed_text xs) ++ r ≡ bracketed_text 123 125 (map keyed_text ys) ++ s =
+    ap (λ texts. bracketed_text 123 125 texts ++ r) (sym (map-keyed xs)) ∙ e ∙ ap (λ texts. bracketed_text 123 125 texts ++ s) (map-keyed ys) in
     let inner = unbracketed 123 125 (map keyed_text xs) (map keyed_text ys) r s keyed in
     let parts = pieces_tell FitMember keyed_text 125 (λ e. omega arith) (omega arith) no_brace xs ys r s (members_tell xs told) px py inner in
     (ap Value-F.Map parts.0, parts.1)

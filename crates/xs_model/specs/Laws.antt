@@ -1,16 +1,12 @@
 -- What follows from the definitions, in the words of one who reads values and their texts.
 use Rattle.std.specs.Prelude.{◌≡◌, ◌≢◌, ℕ, List, Some, Decides, FitsSigned, ⊤}
 use Rattle.std.specs.Int.{w64}
-use Rattle.xs_model.specs.declared.env.Env.{Env}
-use Rattle.xs_model.specs.declared.expr.Expr.{Expr}
-use Rattle.xs_model.specs.declared.expr.Expr.TheVariants.{Lit}
 use Rattle.xs_model.specs.declared.value.Value.{Value}
 use Rattle.xs_model.specs.declared.value.Value.TheFolds.{every-Value}
 use Rattle.xs_model.specs.declared.value.Value.TheOpen.{Value-F}
 use Rattle.xs_model.specs.Compact.{compact_text}
-use Rattle.xs_model.specs.Eval.{outcome}
 use Rattle.xs_model.specs.Rising.{put, get}
-use Rattle.xs_model.specs.Same.{same}
+use Rattle.xs_model.specs.Equality.{same}
 
 -- the test of equality is true exactly where both values are the same value
 abbrev pub EqualityIsOfValues : Type 0
@@ -37,17 +33,3 @@ pub record LastPutWins (X : Type 0) : Type 0 where
   pub held : (pairs : List (List ℕ × X)) (key : List ℕ) (x : X) → get key (put pairs key x) ≡ Some x
   -- what is found under another key is what was found before
   pub others : (pairs : List (List ℕ × X)) (key other : List ℕ) (x : X) → other ≢ key → get other (put pairs key x) ≡ get other pairs
-
--- each of the four values of one environment equals that of the other
-pub record HasEqualValues (env other : Env) : Type 0 where
-  pub context : env.context.now ≡ other.context.now
-  pub event : env.event.now ≡ other.event.now
-  pub params : env.params.now ≡ other.params.now
-  pub input : env.input.now ≡ other.input.now
-
--- an equal value gives the same outcome in a value's place
-pub record CopiesEvaluateAlike : Type 0 where
-  -- in an environment
-  pub environments : (env other : Env) (expr : Expr) → HasEqualValues env other → outcome env expr ≡ outcome other expr
-  -- in a literal
-  pub literals : (env : Env) (value other : Value) → value ≡ other → outcome env (Lit value) ≡ outcome env (Lit other)

@@ -1,7 +1,7 @@
 pub mod Rising
-pub mod Named
+pub mod Names
 pub mod Compact
-pub mod Same
+pub mod Equality
 pub mod Paths
 pub mod Eval
 pub mod Laws

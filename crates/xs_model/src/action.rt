@@ -1,3 +1,5 @@
+//! Actions: what transitions and states do.
+
 use crate::expr::{Expr, Parts};
 use xs_data::Items;
 

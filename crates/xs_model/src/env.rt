@@ -1,3 +1,5 @@
+//! What an expression reads, and why one gives no value.
+
 ghost use Rattle.std.specs.Prelude.{◌≡◌};
 
 use crate::value::Value;

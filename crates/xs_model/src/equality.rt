@@ -1,5 +1,7 @@
+//! Whether two values are equal.
+
 ghost use Rattle.std.specs.Prelude.{◌≡◌, Decides};
-ghost use Rattle.xs_model.specs.Same.{same};
+ghost use Rattle.xs_model.specs.Equality.{same};
 
 use crate::value::Value;
 

@@ -1,3 +1,5 @@
+//! Expressions.
+
 use crate::value::Value;
 use sqlite_items::Boxed;
 use xs_data::{Items, Text};
@@ -17,7 +19,7 @@ pub enum Expr {
     /// The map of what its parts give, which stand in the order of the text.
     Map(Parts),
     /// `{"$context":path}` and the like: what stands at the path.
-    Path(Source, Text),
+    Path(PathRoot, Text),
     /// `{"$or_else":[a,b]}`: what `a` gives, or `b` where `a` finds nothing.
     OrElse(Boxed<Expr>, Boxed<Expr>),
     /// An operator that takes the value of its one operand.
@@ -40,7 +42,7 @@ pub type Parts = Items<(Text, Expr)>;
 
 /// What a path begins in.
 #[derive(Clone, Copy, Debug)]
-pub enum Source {
+pub enum PathRoot {
     Context,
     Event,
     Params,

@@ -1,3 +1,5 @@
+//! Pairs sorted by their keys.
+
 ghost use Rattle.std.specs.Prelude.{◌≡◌, [], ◌==◌, length, IfOk, IfErr, OnOk, OnErr, option_copied};
 ghost use Rattle.xs_model.specs.Rising.{KeysRise, HoldsKeyAt, HasGapAt, key_cmp};
 
@@ -102,7 +104,7 @@ impl<T: Drop> Entries<T> {
     }
 }
 
-// Where the pair with the key is, or where it would go.
+/// Where the pair with the key is, or where it would go.
 fn search<T>(pairs: &[(Text, T)], key: &[u8]) -> Result<usize, usize>
     requires { KeysRise pairs.now }
     ensures found { IfOk result (λ place. HoldsKeyAt key.now place pairs.now) }

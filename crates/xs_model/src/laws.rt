@@ -3,7 +3,7 @@
 
 ghost use Rattle.std.specs.Prelude.{◌≡◌, ◌↔◌};
 ghost use Rattle.xs_model.specs.Compact.{compact_text};
-ghost use Rattle.xs_model.specs.Laws.{CompactTextIsInjective, CopiesEvaluateAlike, EqualityIsOfValues, HasNumbersOf64Bits, LastPutWins};
+ghost use Rattle.xs_model.specs.Laws.{CompactTextIsInjective, EqualityIsOfValues, HasNumbersOf64Bits, LastPutWins};
 
 use crate::value::Value;
 
@@ -52,9 +52,4 @@ pub fn compact_texts_tell_values_apart(a: &Value, b: &Value)
 /// Of what was put under a key the last counts, and nothing is changed under another key.
 pub fn last_put_wins<T>()
     ensures { LastPutWins T }
-{}
-
-/// A copy of a value gives the same outcome in the value's place.
-pub fn copies_evaluate_alike()
-    ensures { CopiesEvaluateAlike }
 {}

@@ -1,12 +1,13 @@
 //! Named values in the order in which they were put.
 
-ghost use Rattle.std.specs.Prelude.{◌≡◌, [], ◌∷◌, ◌++◌, None, ◌==◌, length, IfErr, OnOk, OnErr, option_copied};
+ghost use Rattle.std.specs.Prelude.{◌≡◌, [], ◌∷◌, ◌++◌, None, ◌==◌, length, slice_get, position, bytes_eq, IfErr, OnOk, OnErr, option_copied, option_map};
 ghost use Rattle.xs_model.specs.Rising.{get};
-ghost use Rattle.xs_model.specs.Named.{without};
+ghost use Rattle.xs_model.specs.Names.{without};
 
 use indexmap::IndexMap;
 use std::alloc::Global;
 use std::marker::Model;
+use std::str;
 use xs_data::Text;
 
 /// Values under distinct names, in order of insertion, each found by a hash of its name. Contracts
@@ -14,19 +15,19 @@ use xs_data::Text;
 #[derive(Drop)]
 pub struct Names<T> {
     alloc: Global,
-    values: IndexMap<Vec<u8>, T>,
+    values: IndexMap<String, T>,
 }
 
 impl<T> Model for Names<T> {
     ghost use Rattle.std.specs.Prelude.{List, ℕ};
     ghost use Rattle.std.specs.Coded.{coded_list, coded×, coded_ℕ};
-    ghost use Rattle.xs_model.specs.Named.{named};
+    ghost use Rattle.xs_model.specs.Names.{named_values};
 
     ghost Value = { List (List ℕ × T) };
 
     ghost coded = { coded_list (coded× (coded_list coded_ℕ) T.code) };
 
-    ghost view = { λ names. named names.values.entries };
+    ghost view = { λ names. named_values names.values.entries };
 }
 
 impl<T> Names<T> {
@@ -58,7 +59,31 @@ impl<T> Names<T> {
     pub fn get(&self, key: &[u8]) -> Option<&T>
         ensures { option_copied result ≡ get key.now self.now }
     {
-        self.values.get(key)
+        match str::from_utf8(key) {
+            Ok(name) => self.values.get(name),
+            Err(_) => None,
+        }
+    }
+
+    /// At which place a name stands in the order of insertion, counted from 0, found by a hash of its
+    /// bytes. It takes no memory.
+    pub fn place_of(&self, key: &[u8]) -> Option<usize>
+        ensures { result ≡ position (λ pair. bytes_eq key.now pair.0) self.now }
+    {
+        match str::from_utf8(key) {
+            Ok(name) => self.values.get_index_of(name),
+            Err(_) => None,
+        }
+    }
+
+    /// The name and the value at a place in the order of insertion, counted from 0. It takes no memory.
+    pub fn at(&self, place: usize) -> Option<(&str, &T)>
+        ensures { option_map (λ pair. (pair.0.now, pair.1.now)) result ≡ slice_get self.now place }
+    {
+        match self.values.get_index(place) {
+            Some((name, value)) => Some((name.as_str(), value)),
+            None => None,
+        }
     }
 }
 
@@ -71,7 +96,7 @@ impl<T: Drop> Names<T> {
         ensures err { OnErr result (self.new ≡ self.old) }
         ensures handed_back { IfErr result (λ back. back ≡ (key, value)) }
     {
-        let Ok(name) = Vec::from_slice(self.alloc, key.as_bytes()) else {
+        let Ok(name) = String::from_str(self.alloc, key.as_str()) else {
             return Err((key, value));
         };
         match self.values.insert(name, value) {
@@ -87,6 +112,9 @@ impl<T: Drop> Names<T> {
         ensures rest { self.new ≡ without key.now self.old }
         ensures gone { get key.now self.new ≡ None }
     {
-        self.values.shift_remove(key)
+        match str::from_utf8(key) {
+            Ok(name) => self.values.shift_remove(name),
+            Err(_) => None,
+        }
     }
 }

@@ -1,3 +1,5 @@
+//! How deep a value nests.
+
 ghost use Rattle.std.specs.Prelude.{◌≡◌, min};
 ghost use Rattle.xs_model.specs.Compact.{nesting};
 

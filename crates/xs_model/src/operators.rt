@@ -3,46 +3,42 @@
 ghost use Rattle.std.specs.Prelude.{◌≡◌};
 ghost use Rattle.xs_model.specs.declared.value.Value.{out-Value};
 ghost use Rattle.xs_model.specs.Eval as spec;
-ghost use Rattle.xs_model.specs.Eval.{Gives};
+ghost use Rattle.xs_model.specs.Eval.{Evaluates, scope_of};
 
 use crate::env::{Env, EvalFault};
 use crate::equality::same;
-use crate::expr::{Arithmetic, Binary, Comparison, Connective, Division, Source, Unary};
+use crate::expr::{Arithmetic, Binary, Comparison, Connective, Division, PathRoot, Unary};
+use crate::limits::{MAX_NESTING, MAX_VALUE_TEXT};
 use crate::nesting::depth;
 use crate::size::text_len;
 use crate::value::Value;
 use std::alloc::Global;
 use xs_data::Text;
 
-// Values of more bytes of compact text, or nested deeper, are too large to be made.
-const MAX_TEXT_LEN: u64 = 65_536;
-
-const MAX_DEPTH: u32 = 32;
-
-pub(crate) fn limited(answer: Result<Value, EvalFault>) -> Result<Value, EvalFault>
-    ensures { result ≡ spec.limited answer }
+pub(crate) fn value_if_small(answer: Result<Value, EvalFault>) -> Result<Value, EvalFault>
+    ensures { result ≡ spec.value_if_small answer }
 {
     let value = answer?;
-    if text_len(&value) <= MAX_TEXT_LEN && depth(&value) <= MAX_DEPTH {
+    if text_len(&value) <= MAX_VALUE_TEXT && depth(&value) <= MAX_NESTING {
         Ok(value)
     } else {
         Err(EvalFault::TooLarge)
     }
 }
 
-pub(crate) fn begin<'a>(source: Source, env: &Env<'a>) -> &'a Value
-    ensures { result.now ≡ spec.begin source env.now }
+pub(crate) fn root_value<'a>(root: PathRoot, env: &Env<'a>) -> &'a Value
+    ensures { result.now ≡ spec.root_value root (scope_of env.now) }
 {
-    match source {
-        Source::Context => env.context,
-        Source::Event => env.event,
-        Source::Params => env.params,
-        Source::Input => env.input,
+    match root {
+        PathRoot::Context => env.context,
+        PathRoot::Event => env.event,
+        PathRoot::Params => env.params,
+        PathRoot::Input => env.input,
     }
 }
 
 pub(crate) fn unary(alloc: Global, op: Unary, x: &Value) -> Result<Value, EvalFault>
-    ensures { Gives result (spec.unary op (out-Value x.now)) }
+    ensures { Evaluates result (spec.unary op (out-Value x.now)) }
 {
     match op {
         Unary::Decimal => decimal(alloc, x),
@@ -52,7 +48,7 @@ pub(crate) fn unary(alloc: Global, op: Unary, x: &Value) -> Result<Value, EvalFa
 }
 
 pub(crate) fn binary(alloc: Global, op: Binary, x: Value, y: Value) -> Result<Value, EvalFault>
-    ensures { Gives result (spec.binary op x y) }
+    ensures { Evaluates result (spec.binary op x y) }
 {
     match op {
         Binary::Arithmetic(op) => arithmetic(op, &x, &y),
@@ -130,7 +126,7 @@ pub(crate) fn truth(x: &Value) -> Result<bool, EvalFault>
 }
 
 fn concat(alloc: Global, x: &Value, y: &Value) -> Result<Value, EvalFault>
-    ensures { Gives result (spec.concat (out-Value x.now) (out-Value y.now)) }
+    ensures { Evaluates result (spec.concat (out-Value x.now) (out-Value y.now)) }
 {
     let (Value::Text(s), Value::Text(t)) = (x, y) else {
         return Err(EvalFault::Kind);
@@ -141,7 +137,7 @@ fn concat(alloc: Global, x: &Value, y: &Value) -> Result<Value, EvalFault>
 }
 
 fn decimal(alloc: Global, x: &Value) -> Result<Value, EvalFault>
-    ensures { Gives result (spec.decimal_text (out-Value x.now)) }
+    ensures { Evaluates result (spec.decimal_text (out-Value x.now)) }
 {
     match x {
         Value::Int(number) => Ok(Value::Text(Text::from_string(number.to_string(alloc)?))),
@@ -150,7 +146,7 @@ fn decimal(alloc: Global, x: &Value) -> Result<Value, EvalFault>
 }
 
 fn append(x: Value, y: Value) -> Result<Value, EvalFault>
-    ensures { Gives result (spec.append (out-Value x) y) }
+    ensures { Evaluates result (spec.append (out-Value x) y) }
 {
     match x {
         Value::List(mut members) => match members.push(y) {
@@ -161,7 +157,7 @@ fn append(x: Value, y: Value) -> Result<Value, EvalFault>
     }
 }
 
-// Whether the first operand's truth value is that of the whole.
+/// Whether the first operand's truth value is that of the whole.
 pub(crate) fn decides(op: Connective, first: bool) -> bool
     ensures { result ≡ spec.decides op first }
 {

@@ -1,3 +1,5 @@
+//! How long the compact text of a value is.
+
 ghost use Rattle.std.specs.Prelude.{◌≡◌, ◌≤◌, decimal, length, min, ◌+◌, nat_lt};
 ghost use Rattle.std.specs.Fmt.{signed_decimal};
 ghost use Rattle.json.specs.Print.{escape_letter, escape_byte};
@@ -32,14 +34,14 @@ pub fn text_len(value: &Value) -> u64
     }
 }
 
-// The length of a key, a colon and a text of this length, and a comma or bracket after them.
+/// The length of a key, a colon and a text of this length, and a comma or bracket after them.
 fn keyed_len(key: &[u8], len: u64) -> u64
     ensures { result ≡ min (length (quoted_text key.now) + len + 2) u64.MAX }
 {
     quoted_len(key).saturating_add(len).saturating_add(2)
 }
 
-// How many bytes a number has in decimal, with its sign.
+/// How many bytes a number has in decimal, with its sign.
 fn int_len(number: i64) -> u64
     ensures { result ≡ length (signed_decimal number) }
 {
@@ -72,7 +74,7 @@ pub fn quoted_len(text: &[u8]) -> u64
     len
 }
 
-// How many bytes stand for a byte between the quotes.
+/// How many bytes stand for a byte between the quotes.
 fn escaped_len(byte: u8) -> u64
     ensures { result ≡ length (escape_byte byte) }
 {
@@ -85,7 +87,7 @@ fn escaped_len(byte: u8) -> u64
     }
 }
 
-// Whether a backslash and a letter stand for the byte.
+/// Whether a backslash and a letter stand for the byte.
 fn has_short_escape(byte: u8) -> bool
     ensures { result ≡ nat_lt 0 (escape_letter byte) }
 {

@@ -1,3 +1,5 @@
+//! Tables of cases for each form, each limit and each list of pairs.
+
 mod choices;
 mod given;
 mod holders;

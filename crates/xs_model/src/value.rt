@@ -1,3 +1,5 @@
+//! Values.
+
 use crate::fields::Entries;
 use xs_data::{Items, Text};
 

@@ -9,8 +9,8 @@ fn connect(alloc: Global, op: Connective, a: Given, b: Given) -> Result<Expr, Ev
     Ok(Expr::Connect(op, operand(alloc, a)?, operand(alloc, b)?))
 }
 
-// The second operand is asked only where the first one doesn't decide, and the first one's kind
-// is looked at before it.
+/// The second operand is asked only where the first one doesn't decide, and the first one's kind
+/// is looked at before it.
 const CONNECTED: [(Connective, Given, Given, Wanted); 14] = [
     (
         Connective::And,
@@ -107,7 +107,7 @@ fn connectives_stop_at_the_deciding_operand(rt: HostRuntime) -> Result<(), Fail>
     Ok(())
 }
 
-// A condition, its two branches and what they give.
+/// A condition, its two branches and what they give.
 const BRANCHES: [(Given, Given, Given, Wanted); 8] = [
     (
         Given::Bool(true),
@@ -170,7 +170,7 @@ fn one_branch_is_evaluated(rt: HostRuntime) -> Result<(), Fail> {
     Ok(())
 }
 
-// The second operand stands in where the first one finds nothing, and for no other fault.
+/// The second operand stands in where the first one finds nothing, and for no other fault.
 const STAND_INS: [(Given, Given, Wanted); 6] = [
     (Given::Missing, Given::Int(2), Ok(Given::Int(2))),
     (Given::Missing, Given::OutOfRange, Err(EvalFault::Range)),

@@ -98,7 +98,7 @@ pub(crate) fn expr(alloc: Global, given: Given) -> Result<Expr, EvalFault> {
         Given::Text(text) => Ok(Expr::Text(Text::from_str(alloc, text)?)),
         Given::List(numbers) => list_expr(alloc, numbers),
         Given::Map(pairs) => map_expr(alloc, pairs),
-        Given::Missing => Ok(Expr::Path(Source::Context, Text::from_str(alloc, "none")?)),
+        Given::Missing => Ok(Expr::Path(PathRoot::Context, Text::from_str(alloc, "none")?)),
         Given::OutOfRange => {
             let one = Boxed::new(alloc, Expr::Int(1))?;
             let zero = Boxed::new(alloc, Expr::Int(0))?;

@@ -1,6 +1,6 @@
 //! Copies, equality, and the two lists of pairs.
 
-use crate::tests::given::{Given, KINDS, value};
+use crate::tests::given::{Given, KINDS, expr, gives, value};
 use crate::*;
 use std::test::Fail;
 
@@ -16,7 +16,7 @@ fn a_copy_is_equal(rt: HostRuntime) -> Result<(), Fail> {
     Ok(())
 }
 
-// Keys in the order in which they are put.
+/// Keys in the order in which they are put.
 const PUT: [(&str, u8); 6] = [
     ("b", 1),
     ("", 2),
@@ -26,7 +26,7 @@ const PUT: [(&str, u8); 6] = [
     ("b", 6),
 ];
 
-// The same keys sorted by their bytes, each with what was put last.
+/// The same keys sorted by their bytes, each with what was put last.
 const SORTED: [(&str, u8); 5] = [("", 2), ("a", 4), ("ab", 3), ("b", 6), ("\u{e9}", 5)];
 
 #[test]
@@ -51,11 +51,14 @@ fn entries_are_sorted_and_keep_the_last(rt: HostRuntime) -> Result<(), Fail> {
     Ok(())
 }
 
+/// Names in the order in which they are put, which is not that of their bytes.
+const NAMED: [(&str, u8); 4] = [("b", 1), ("", 2), ("\u{e9}", 3), ("a", 4)];
+
 #[test]
-fn names_are_found_until_they_are_taken(rt: HostRuntime) -> Result<(), Fail> {
+fn names_stand_in_the_order_of_insertion(rt: HostRuntime) -> Result<(), Fail> {
     let mut names: Names<u8> = Names::new(rt.alloc());
     assert!(rt; names.is_empty());
-    for (key, number) in SORTED {
+    for (key, number) in NAMED {
         if names.get(key.as_bytes()).is_none() {
             let refused = names
                 .put_last(Text::from_str(rt.alloc(), key)?, number)
@@ -63,13 +66,37 @@ fn names_are_found_until_they_are_taken(rt: HostRuntime) -> Result<(), Fail> {
             assert!(rt; !refused, "{key}");
         }
     }
-    assert_eq!(rt; names.len(), 5);
-    assert_eq!(rt; names.take(b"ab"), Some(3));
-    assert_eq!(rt; names.take(b"ab"), None);
     assert_eq!(rt; names.len(), 4);
-    for (key, wanted) in SORTED {
-        let held = if key == "ab" { None } else { Some(wanted) };
-        assert_eq!(rt; names.get(key.as_bytes()).copied(), held, "{key}");
+    for (place, (key, number)) in NAMED.iter().enumerate() {
+        let (name, value) = names.at(place).ok_or("no name")?;
+        assert_eq!(rt; name, *key);
+        assert_eq!(rt; *value, *number, "{key}");
+        assert_eq!(rt; names.place_of(key.as_bytes()), Some(place), "{key}");
     }
+    assert!(rt; names.at(4).is_none());
+    assert_eq!(rt; names.place_of(b"c"), None);
+    assert_eq!(rt; names.place_of(b"\xe9"), None);
+    assert_eq!(rt; names.take(b""), Some(2));
+    assert_eq!(rt; names.take(b""), None);
+    assert_eq!(rt; names.get(b"").copied(), None);
+    let (name, value) = names.at(1).ok_or("no name")?;
+    assert_eq!(rt; name, "\u{e9}");
+    assert_eq!(rt; *value, 3);
+    Ok(())
+}
+
+#[test]
+fn copies_evaluate_to_the_same(rt: HostRuntime) -> Result<(), Fail> {
+    for given in KINDS {
+        let copied = copy_expr(rt.alloc(), &expr(rt.alloc(), given)?)?;
+        assert!(rt; gives(rt.alloc(), &copied, Ok(given))?, "{given:?}");
+    }
+    let cancel = Action::Cancel {
+        id: expr(rt.alloc(), Given::Text("p"))?,
+    };
+    let Action::Cancel { id } = copy_action(rt.alloc(), &cancel)? else {
+        return Err(Fail::new("another action"));
+    };
+    assert!(rt; gives(rt.alloc(), &id, Ok(Given::Text("p")))?);
     Ok(())
 }

@@ -7,7 +7,7 @@ use std::alloc::Global;
 use std::test::Fail;
 use xs_data::Items;
 
-// The escapes of RFC 8259, section 7: two bytes for those with a letter, six for another control.
+/// The escapes of RFC 8259, section 7: two bytes for those with a letter, six for another control.
 const QUOTED: [(&[u8], u64); 12] = [
     (b"", 2),
     (b"plain", 7),
@@ -30,7 +30,7 @@ fn quoted_texts_have_the_shortest_escapes(rt: HostRuntime) {
     }
 }
 
-// Values and their compact texts.
+/// Values and their compact texts.
 const TEXTS: [(Given, &str); 16] = [
     (Given::Null, "null"),
     (Given::Bool(true), "true"),
@@ -62,7 +62,7 @@ fn values_are_as_long_as_their_texts(rt: HostRuntime) -> Result<(), Fail> {
     Ok(())
 }
 
-// A text of so many letters.
+/// A text of so many letters.
 fn letters(alloc: Global, count: usize) -> Result<Text, EvalFault> {
     let mut text = String::new(alloc);
     for _ in 0..count {
@@ -71,7 +71,7 @@ fn letters(alloc: Global, count: usize) -> Result<Text, EvalFault> {
     Ok(Text::from_string(text))
 }
 
-// A form around a text of letters, and how many bytes of compact text it has besides the letters.
+/// A form around a text of letters, and how many bytes of compact text it has besides the letters.
 #[derive(Clone, Copy, Debug)]
 enum Form {
     Concat,
@@ -106,7 +106,7 @@ fn around(alloc: Global, form: Form, text: Text) -> Result<Expr, EvalFault> {
     }
 }
 
-// "..", [".."], {"":".."}
+/// "..", [".."], {"":".."}
 const LENGTHS: [(Form, usize); 5] = [
     (Form::Concat, 2),
     (Form::List, 4),
@@ -142,7 +142,7 @@ fn a_text_has_no_limit_of_its_own(rt: HostRuntime) -> Result<(), Fail> {
     Ok(())
 }
 
-// Lists in one another, so many in all.
+/// Lists in one another, so many in all.
 fn nested_lists(alloc: Global, levels: u32) -> Result<Expr, EvalFault> {
     let mut nested = Expr::Int(1);
     for _ in 0..levels {
@@ -153,7 +153,7 @@ fn nested_lists(alloc: Global, levels: u32) -> Result<Expr, EvalFault> {
     Ok(nested)
 }
 
-// Maps in one another, so many in all.
+/// Maps in one another, so many in all.
 fn nested_maps(alloc: Global, levels: u32) -> Result<Expr, EvalFault> {
     let mut nested = Expr::Int(1);
     for _ in 0..levels {
@@ -164,14 +164,14 @@ fn nested_maps(alloc: Global, levels: u32) -> Result<Expr, EvalFault> {
     Ok(nested)
 }
 
-// A list with these lists as its last member.
+/// A list with these lists as its last member.
 fn appended(alloc: Global, levels: u32) -> Result<Expr, EvalFault> {
     let list = Boxed::new(alloc, Expr::List(Items::new(alloc)))?;
     let member = Boxed::new(alloc, nested_lists(alloc, levels)?)?;
     Ok(Expr::Binary(Binary::Append, list, member))
 }
 
-// How levels are nested.
+/// How levels are nested.
 #[derive(Clone, Copy, Debug)]
 enum Shape {
     Lists,
@@ -191,7 +191,7 @@ fn depth_of(alloc: Global, expr: &Expr) -> Result<u32, EvalFault> {
     Ok(depth(&alone(alloc, expr)?))
 }
 
-// Shapes, levels and the nesting of what they give.
+/// Shapes, levels and the nesting of what they give.
 const LEVELS: [(Shape, u32, Result<u32, EvalFault>); 9] = [
     (Shape::Lists, 0, Ok(0)),
     (Shape::Lists, 1, Ok(1)),
@@ -213,7 +213,7 @@ fn what_is_made_nests_at_most_32_deep(rt: HostRuntime) -> Result<(), Fail> {
     Ok(())
 }
 
-// A list of 65,536 bytes of compact text, as the whole context and after one more member.
+/// A list of 65,536 bytes of compact text, as the whole context and after one more member.
 #[test]
 fn a_context_is_under_the_same_limits(rt: HostRuntime) -> Result<(), Fail> {
     let mut members = Vec::new(rt.alloc());
@@ -226,7 +226,7 @@ fn a_context_is_under_the_same_limits(rt: HostRuntime) -> Result<(), Fail> {
         params: &nothing,
         input: &nothing,
     };
-    let whole = Expr::Path(Source::Context, Text::new(rt.alloc()));
+    let whole = Expr::Path(PathRoot::Context, Text::new(rt.alloc()));
     let found = eval(rt.alloc(), &whole, &env)?;
     assert_eq!(rt; text_len(&found), 65_536);
     let first = Boxed::new(rt.alloc(), whole)?;

@@ -28,7 +28,7 @@ fn binary(alloc: Global, op: Binary, a: Given, b: Given) -> Result<Expr, EvalFau
     Ok(Expr::Binary(op, operand(alloc, a)?, operand(alloc, b)?))
 }
 
-// Arithmetic, as two numbers and what they give.
+/// Arithmetic, as two numbers and what they give.
 const ARITHMETIC: [(Binary, i64, i64, Result<i64, EvalFault>); 25] = [
     (ADD, 2, 3, Ok(5)),
     (ADD, MOST, 0, Ok(MOST)),
@@ -70,7 +70,7 @@ fn numbers_stay_within_64_bits(rt: HostRuntime) -> Result<(), Fail> {
     Ok(())
 }
 
-// Operators of two operands on the kinds that they take.
+/// Operators of two operands on the kinds that they take.
 const PAIRS: [(Binary, Given, Given, Given); 21] = [
     (
         Binary::Concat,
@@ -189,7 +189,7 @@ fn operators_take_their_kinds(rt: HostRuntime) -> Result<(), Fail> {
     Ok(())
 }
 
-// Operators that want kinds of their operands, with operands of those kinds.
+/// Operators that want kinds of their operands, with operands of those kinds.
 const TYPED: [(Binary, Given, Given); 10] = [
     (ADD, Given::Int(1), Given::Int(1)),
     (SUB, Given::Int(1), Given::Int(1)),
@@ -255,7 +255,7 @@ fn values_of_two_kinds_are_unequal(rt: HostRuntime) -> Result<(), Fail> {
     Ok(())
 }
 
-// Both operands are evaluated, from left to right, before their kinds are looked at.
+/// Both operands are evaluated, from left to right, before their kinds are looked at.
 const FAULTS: [(Binary, Given, Given, EvalFault); 7] = [
     (ADD, Given::Missing, Given::OutOfRange, EvalFault::Missing),
     (ADD, Given::OutOfRange, Given::Missing, EvalFault::Range),
@@ -290,7 +290,7 @@ fn the_first_fault_is_the_answer(rt: HostRuntime) -> Result<(), Fail> {
     Ok(())
 }
 
-// Operators of one operand.
+/// Operators of one operand.
 const SINGLE: [(Unary, Given, Wanted); 24] = [
     (Unary::Decimal, Given::Int(0), Ok(Given::Text("0"))),
     (Unary::Decimal, Given::Int(-10), Ok(Given::Text("-10"))),

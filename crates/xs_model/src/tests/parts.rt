@@ -6,7 +6,7 @@ use std::alloc::Global;
 use std::test::Fail;
 use xs_data::Items;
 
-// {"":30,"a":[10,{"b":20}],"a.b":40}
+/// {"":30,"a":[10,{"b":20}],"a.b":40}
 fn sample(alloc: Global) -> Result<Value, EvalFault> {
     let mut members = Vec::new(alloc);
     members.push(Value::Int(10))?;
@@ -23,7 +23,7 @@ fn sample(alloc: Global) -> Result<Value, EvalFault> {
     Ok(Value::Map(whole))
 }
 
-// A step into a list is a place from 0 in decimal without leading zeros, and nothing else.
+/// A step into a list is a place from 0 in decimal without leading zeros, and nothing else.
 const PATHS: [(&str, Option<i64>); 17] = [
     ("a.0", Some(10)),
     ("a.1.b", Some(20)),
@@ -59,28 +59,28 @@ fn paths_lead_through_lists_and_maps(rt: HostRuntime) -> Result<(), Fail> {
     Ok(())
 }
 
-fn read(alloc: Global, source: Source, path: &str) -> Result<Expr, EvalFault> {
-    Ok(Expr::Path(source, Text::from_str(alloc, path)?))
+fn read(alloc: Global, root: PathRoot, path: &str) -> Result<Expr, EvalFault> {
+    Ok(Expr::Path(root, Text::from_str(alloc, path)?))
 }
 
-// A source, a path and what they give beside a list, a map, a text and a number.
-const READS: [(Source, &str, Wanted); 12] = [
-    (Source::Context, "", Ok(Given::List(&[7, 8]))),
-    (Source::Context, "1", Ok(Given::Int(8))),
-    (Source::Context, "01", Err(EvalFault::Missing)),
-    (Source::Context, "2", Err(EvalFault::Missing)),
-    (Source::Event, "", Ok(Given::Map(&[("0", 9), ("01", 10)]))),
-    (Source::Event, "0", Ok(Given::Int(9))),
-    (Source::Event, "01", Ok(Given::Int(10))),
-    (Source::Event, "1", Err(EvalFault::Missing)),
-    (Source::Params, "", Ok(Given::Text("0"))),
-    (Source::Params, "0", Err(EvalFault::Missing)),
-    (Source::Input, "", Ok(Given::Int(0))),
-    (Source::Input, "0", Err(EvalFault::Missing)),
+/// A root, a path and what they give beside a list, a map, a text and a number.
+const READS: [(PathRoot, &str, Wanted); 12] = [
+    (PathRoot::Context, "", Ok(Given::List(&[7, 8]))),
+    (PathRoot::Context, "1", Ok(Given::Int(8))),
+    (PathRoot::Context, "01", Err(EvalFault::Missing)),
+    (PathRoot::Context, "2", Err(EvalFault::Missing)),
+    (PathRoot::Event, "", Ok(Given::Map(&[("0", 9), ("01", 10)]))),
+    (PathRoot::Event, "0", Ok(Given::Int(9))),
+    (PathRoot::Event, "01", Ok(Given::Int(10))),
+    (PathRoot::Event, "1", Err(EvalFault::Missing)),
+    (PathRoot::Params, "", Ok(Given::Text("0"))),
+    (PathRoot::Params, "0", Err(EvalFault::Missing)),
+    (PathRoot::Input, "", Ok(Given::Int(0))),
+    (PathRoot::Input, "0", Err(EvalFault::Missing)),
 ];
 
 #[test]
-fn each_source_is_read_by_its_own_operator(rt: HostRuntime) -> Result<(), Fail> {
+fn each_root_is_read_by_its_own_operator(rt: HostRuntime) -> Result<(), Fail> {
     let context = value(rt.alloc(), Given::List(&[7, 8]))?;
     let event = value(rt.alloc(), Given::Map(&[("01", 10), ("0", 9)]))?;
     let params = value(rt.alloc(), Given::Text("0"))?;
@@ -91,14 +91,14 @@ fn each_source_is_read_by_its_own_operator(rt: HostRuntime) -> Result<(), Fail> 
         params: &params,
         input: &input,
     };
-    for (source, path, wanted) in READS {
-        let answer = eval(rt.alloc(), &read(rt.alloc(), source, path)?, &env);
-        assert!(rt; agrees(rt.alloc(), answer, wanted)?, "{source:?} {path}");
+    for (root, path, wanted) in READS {
+        let answer = eval(rt.alloc(), &read(rt.alloc(), root, path)?, &env);
+        assert!(rt; agrees(rt.alloc(), answer, wanted)?, "{root:?} {path}");
     }
     Ok(())
 }
 
-// Scalars, lists, maps and literals give themselves.
+/// Scalars, lists, maps and literals give themselves.
 #[test]
 fn data_gives_itself(rt: HostRuntime) -> Result<(), Fail> {
     let rows = [
@@ -129,7 +129,7 @@ fn list_of(alloc: Global, a: Given, b: Given) -> Result<Expr, EvalFault> {
     Ok(Expr::List(Items::from_vec(parts)))
 }
 
-// A map whose first part in the text has the greater key.
+/// A map whose first part in the text has the greater key.
 fn map_of(alloc: Global, a: Given, b: Given) -> Result<Expr, EvalFault> {
     let mut parts = Vec::new(alloc);
     parts.push((Text::from_str(alloc, "z")?, expr(alloc, a)?))?;
@@ -137,7 +137,7 @@ fn map_of(alloc: Global, a: Given, b: Given) -> Result<Expr, EvalFault> {
     Ok(Expr::Map(Items::from_vec(parts)))
 }
 
-// Two parts in the order of the text, and the first fault.
+/// Two parts in the order of the text, and the first fault.
 const PARTS: [(Given, Given, EvalFault); 4] = [
     (Given::Missing, Given::OutOfRange, EvalFault::Missing),
     (Given::OutOfRange, Given::Missing, EvalFault::Range),

@@ -2,7 +2,7 @@ use Rattle.std.proofs.Common.{◌≡◌, ◌≢◌, true, false, length, sym, ar
 use Rattle.std.proofs.lemmas.Grind.{common_steps}
 use Rattle.xs_model.proofs.EqualityLemmas.{decided}
 use Rattle.xs_model.proofs.SameLemmas.{same-List, same-Map, pass-lengths, member_same}
-use Rattle.xs_model.specs.Same.{same}
+use Rattle.xs_model.specs.Equality.{same}
 use Rattle.xs_model.proofs.equality.+same.Goals as goal
 
 pub returns-then-len-ys-clause-test : goal.returns-then-len-ys-clause-test

@@ -1,5 +1,5 @@
 use Rattle.std.proofs.Common.{◌≡◌, length, map, drop}
-use Rattle.xs_model.specs.Same.{pass_in_turn, same}
+use Rattle.xs_model.specs.Equality.{pass_in_turn, same}
 use Rattle.xs_model.proofs.SameLemmas.{member_same}
 use Rattle.xs_model.proofs.equality.+same.Given as goal
 

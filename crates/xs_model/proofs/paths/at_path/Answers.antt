@@ -19,4 +19,4 @@ pub returns : goal.returns
 returns c =
     let reached = c.loop-key.reached.now in
     let whole = uncut c.loop-key.rest.now c.split_once.result c.split_once.ensures.cases c.in_default.is in
-    c.step-2.ensures ∙ sym (walk-last c.loop-key.rest.now reached) ∙ ap (λ keys. walk keys reached) (sym whole) ∙ c.loop-key.invariant.1
+    c.path_step-2.ensures ∙ sym (walk-last c.loop-key.rest.now reached) ∙ ap (λ keys. walk keys reached) (sym whole) ∙ c.loop-key.invariant.1

@@ -1,6 +1,9 @@
-use Rattle.std.proofs.Common.{◌∙◌}
-use Rattle.xs_model.proofs.NamedLemmas.{get-named}
+use Rattle.std.proofs.Common.{◌∙◌, sym}
+use Rattle.xs_model.proofs.NameLemmas.{get-named_values, get-no_text}
 use Rattle.xs_model.proofs.names.Names.get.Goals as goal
 
-pub returns : goal.returns
-returns g c = rw (← c.self.view_is) (c.get.ensures.value ∙ get-named c.args.key.now c.self.inside.values.entries)
+pub returns-in-Ok : goal.returns-in-Ok
+returns-in-Ok g c = rw (← c.self.view_is, ← c.in-Ok.ensures.cases.0) (c.get.ensures.value ∙ get-named_values _ c.self.inside.values.entries)
+
+pub returns-in-Err : goal.returns-in-Err
+returns-in-Err g c = rw (← c.self.view_is) (sym (get-no_text c.args.key.now c.in-Err.ensures.cases.0 c.self.inside.values.entries))

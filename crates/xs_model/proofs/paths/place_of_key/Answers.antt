@@ -1,7 +1,7 @@
 use Rattle.std.proofs.Common.{◌≡◌, length, get_or, arith, inl, inr, sym, ◌∙◌}
 use Rattle.xs_model.proofs.PathLemmas.{no_place-empty, no_place-plus, no_place-zero, parsed, first_is, no_first}
-use Rattle.xs_model.proofs.paths.place.Goals as goal
-use Rattle.xs_model.proofs.paths.place.Goals.{then-first-eq43-via-then-first-eq43, then-first-eq43-via-else-first-eq43+then-key-gt1, then-first-eq48, else-first-eq48}
+use Rattle.xs_model.proofs.paths.place_of_key.Goals as goal
+use Rattle.xs_model.proofs.paths.place_of_key.Goals.{then-first-eq43-via-then-first-eq43, then-first-eq43-via-else-first-eq43+then-key-gt1, then-first-eq48, else-first-eq48}
 
 pub returns-in_err-first : goal.returns-in_err-first
 returns-in_err-first c =
