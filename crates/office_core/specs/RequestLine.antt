@@ -5,6 +5,7 @@ use Rattle.std.specs.List.{list_all, starts_with, join_with_byte}
 use Rattle.std.specs.Str.{bytes_eq}
 use Rattle.json.specs.Print.{quoted}
 use Rattle.xs_data.specs.Ascii.{space, hyphen}
+use Rattle.xs_model.specs.declared.limits.TheConstants.{MAX_EVENT_TEXT, MAX_NAME}
 use Rattle.ordered_json.specs.declared.json.OrderedJson.{OrderedJson}
 use Rattle.ordered_json.specs.Words.{MemberParts, as_text, as_object}
 use Rattle.ordered_json.specs.Meaning.{Means}
@@ -13,7 +14,7 @@ use Rattle.office_core.specs.declared.request.Ask.TheVariants.{Start, Send}
 use Rattle.office_core.specs.declared.request.Request.{Request}
 use Rattle.office_core.specs.declared.request_line.LineFault.{LineFault}
 use Rattle.office_core.specs.declared.request_line.LineFault.TheVariants.{NotALine, Memory}
-use Rattle.office_core.specs.declared.request_line.TheConstants.{MAX_LINE, MAX_CALLER, MAX_NAME, MAX_EVENT}
+use Rattle.office_core.specs.declared.request_line.TheConstants.{MAX_LINE, MAX_CALLER}
 
 -- the parts of a line, with one space between them
 abbrev pub spaced_text : List (List ℕ) → List ℕ
@@ -48,7 +49,7 @@ event_text type = codes "{\"type\":" ++ quoted type ++ codes "}"
 -- its compact text isn't too long, and the type isn't one of the machines' own
 abbrev pub is_sendable : List ℕ → Bool
 is_sendable type =
-    nat_le (length (event_text type)) MAX_EVENT && not (starts_with nat_eq type (codes "xstate."))
+    nat_le (length (event_text type)) MAX_EVENT_TEXT && not (starts_with nat_eq type (codes "xstate."))
 
 -- a JSON text that means an event of this type, which may be sent
 pub record IsEvent (text type : List ℕ) : Type 0 where

@@ -17,6 +17,4 @@ pub use office::{Claim, Core, Event, FlatValue, Plan, Refused, StepRefused};
 pub use request::{
     Ask, Reply, Request, STATUS_ACCEPTED, STATUS_CREATED, STATUS_NOT_FOUND, STATUS_OK, Word,
 };
-pub use request_line::{
-    LineFault, MAX_CALLER, MAX_EVENT, MAX_LINE, MAX_NAME, read_number, read_request,
-};
+pub use request_line::{LineFault, MAX_CALLER, MAX_LINE, read_number, read_request};

@@ -30,7 +30,8 @@ impl<'a> Model for Places<'a> {
     ghost view = { λ p. member_keys (map member_parts p.members.now) };
 
     ghost invariant = { λ p. (key : List ℕ) →
-        get_by_text p.places key ≡ place_of_state (member_keys (map member_parts p.members.now)) key };
+        get_by_text p.places key
+        ≡ place_of_state (member_keys (map member_parts p.members.now)) key };
 }
 
 impl<'a> Places<'a> {

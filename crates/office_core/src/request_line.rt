@@ -14,7 +14,7 @@ use std::alloc::{AllocError, Global};
 use std::str;
 use thiserror::Error;
 use xs_data::Text;
-use xs_model::quoted_len;
+use xs_model::{MAX_EVENT_TEXT, MAX_NAME, quoted_len};
 
 /// Why a line isn't read as a request.
 #[derive(Clone, Copy, Debug, PartialEq, Eq, Error)]
@@ -52,14 +52,8 @@ impl From<JsonFault> for LineFault {
 /// The longest line, in bytes, its line feed left out.
 pub const MAX_LINE: usize = 65_536;
 
-/// The longest name, in bytes.
-pub const MAX_NAME: usize = 256;
-
 /// The longest caller, in bytes.
 pub const MAX_CALLER: usize = 64;
-
-/// The longest event, in bytes of its compact text.
-pub const MAX_EVENT: u64 = 4_096;
 
 /// The bytes of `{"type":` and `}`, which stand round an event's type.
 const AROUND_TYPE: u64 = 9;
@@ -158,7 +152,7 @@ fn type_of(json: &OrderedJson) -> Option<&Text>
 fn is_sendable(kind: &[u8]) -> bool
     ensures { result ≡ is_sendable kind.now }
 {
-    quoted_len(kind).saturating_add(AROUND_TYPE) <= MAX_EVENT
+    quoted_len(kind).saturating_add(AROUND_TYPE) <= MAX_EVENT_TEXT
         && !kind.starts_with(b"xstate.".as_slice())
 }
 

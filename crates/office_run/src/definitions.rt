@@ -77,7 +77,8 @@ fn is_memory(fault: &JsonFault) -> bool
 
 /// Takes the bytes of a source, to its end or the limit.
 fn take_text<S: Source>(alloc: Global, source: &mut S) -> Result<Vec<u8>, DefinitionsFault>
-    ensures text { IfOk result (λ text. TakesText text.items (S.left source.old) (S.left source.new)) }
+    ensures text { IfOk result (λ text.
+        TakesText text.items (S.left source.old) (S.left source.new)) }
     ensures taken { S.taken source.new ≤ S.taken source.old + most_taken }
     ensures not_refused { result ≡ Err DefinitionsFault.Refused → ⊥ }
     ensures faults { CountsSource result (S.read_faults source.old) (S.read_faults source.new) }

@@ -90,8 +90,10 @@ impl Input {
             (record { input = self.new; left = S.left source.new; taken = S.taken source.new }) }
         ensures written { S.written source.new ≡ S.written source.old }
         ensures write_faults { S.write_faults source.new ≡ S.write_faults source.old }
-        ensures failed { result ≡ Next.Failed → Rose (S.read_faults source.old) (S.read_faults source.new) }
-        ensures not_failed { result ≢ Next.Failed → S.read_faults source.new ≡ S.read_faults source.old }
+        ensures failed { result ≡ Next.Failed
+            → Rose (S.read_faults source.old) (S.read_faults source.new) }
+        ensures not_failed { result ≢ Next.Failed
+            → S.read_faults source.new ≡ S.read_faults source.old }
     {
         line.clear();
         if self.ended {
@@ -143,8 +145,10 @@ impl Input {
             (record { input = self.new; left = S.left source.new; taken = S.taken source.new }) }
         ensures written { S.written source.new ≡ S.written source.old }
         ensures write_faults { S.write_faults source.new ≡ S.write_faults source.old }
-        ensures failed { result ≡ Fill.Failed → Rose (S.read_faults source.old) (S.read_faults source.new) }
-        ensures not_failed { result ≢ Fill.Failed → S.read_faults source.new ≡ S.read_faults source.old }
+        ensures failed { result ≡ Fill.Failed
+            → Rose (S.read_faults source.old) (S.read_faults source.new) }
+        ensures not_failed { result ≢ Fill.Failed
+            → S.read_faults source.new ≡ S.read_faults source.old }
     {
         self.start = 0;
         self.end = 0;
@@ -175,8 +179,10 @@ impl Input {
             (record { input = self.new; left = S.left source.new; taken = S.taken source.new }) }
         ensures written { S.written source.new ≡ S.written source.old }
         ensures write_faults { S.write_faults source.new ≡ S.write_faults source.old }
-        ensures failed { result ≡ Fill.Failed → Rose (S.read_faults source.old) (S.read_faults source.new) }
-        ensures not_failed { result ≢ Fill.Failed → S.read_faults source.new ≡ S.read_faults source.old }
+        ensures failed { result ≡ Fill.Failed
+            → Rose (S.read_faults source.old) (S.read_faults source.new) }
+        ensures not_failed { result ≢ Fill.Failed
+            → S.read_faults source.new ≡ S.read_faults source.old }
     {
         match source.read(&mut [0]) {
             Got::Bytes(_) => Fill::TooMuch,
@@ -202,7 +208,8 @@ pub fn read_piece<S: Source>(source: &mut S, piece: &mut [u8], room: usize) -> G
     requires within { room ≤ length piece.old }
     ensures gives { ReadGives result (take room piece.new) (S.left source.old) (S.left source.new) }
     ensures taken { S.taken source.new ≡ S.taken source.old + bytes_given result }
-    ensures faults { CountsReadFailure result (S.read_faults source.old) (S.read_faults source.new) }
+    ensures faults { CountsReadFailure result
+        (S.read_faults source.old) (S.read_faults source.new) }
     ensures relation { S.reads result source.old source.new }
 {
     source.read(&mut piece[..room])

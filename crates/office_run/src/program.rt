@@ -66,7 +66,7 @@ pub fn run<S: Source, W: Station>(
         → (result.status ≡ EXIT_USAGE) ⊎ (result.status ≡ EXIT_WRITE_FAULT) }
     ensures form { IsSome (command_of (map rc_str_bytes words.now)) → result.status ≢ EXIT_USAGE }
 
-    // Only the count of a fault that the status tells of rose.
+    // Where the status tells of a fault its count rose, and no other count moved.
     ensures faults { (status : Status) × (result.status ≡ code_of status) × CountsRun status
         (record {
           definitions = S.read_faults defs.old;
@@ -115,11 +115,17 @@ fn serve<S: Source, W: Both>(
     ensures faults { CountsRun result
         (record {
           definitions = S.read_faults defs.old;
-          station = record { reads = W.read_faults station.old; writes = W.write_faults station.old };
+          station = record {
+            reads = W.read_faults station.old;
+            writes = W.write_faults station.old;
+          };
         })
         (record {
           definitions = S.read_faults defs.new;
-          station = record { reads = W.read_faults station.new; writes = W.write_faults station.new };
+          station = record {
+            reads = W.read_faults station.new;
+            writes = W.write_faults station.new;
+          };
         }) }
     ensures definitions_taken { S.taken defs.new ≤ S.taken defs.old + most_taken }
     ensures input_taken { W.taken station.new ≤ W.taken station.old + (MAX_INPUT + 1) }
@@ -195,12 +201,20 @@ fn take_line<W: Both>(
     ensures steps { Steps core.old.machines result
         (record {
           office = core.old.office;
-          inflow = record { input = input.old; left = W.left station.old; taken = W.taken station.old };
+          inflow = record {
+            input = input.old;
+            left = W.left station.old;
+            taken = W.taken station.old;
+          };
           written = W.written station.old;
         })
         (record {
           office = core.new.office;
-          inflow = record { input = input.new; left = W.left station.new; taken = W.taken station.new };
+          inflow = record {
+            input = input.new;
+            left = W.left station.new;
+            taken = W.taken station.new;
+          };
           written = W.written station.new;
         }) }
     ensures bounded { IsBounded

@@ -62,8 +62,8 @@ pub fn answer_line(alloc: Global, core: &mut Core, line: &Line) -> Result<String
 /// Answers a request: it is decided, and what was decided is done.
 fn answer_request(alloc: Global, core: &mut Core, request: &Request) -> Result<String, AllocError>
     ensures machines { core.new.machines ≡ core.old.machines }
-    ensures text { IfOk result (λ text. string_bytes text
-        ≡ reply_line request.now (decided core.old.machines core.old.office request.now.ask).reply) }
+    ensures text { IfOk result (λ text. string_bytes text ≡ reply_line request.now
+        (decided core.old.machines core.old.office request.now.ask).reply) }
     ensures office { IfOk result (λ _.
         core.new.office ≡ (decided core.old.machines core.old.office request.now.ask).after) }
 {
@@ -76,7 +76,8 @@ fn answer_request(alloc: Global, core: &mut Core, request: &Request) -> Result<S
 /// Answers a turn: the actor with the least head letter takes a step.
 fn take_turn(alloc: Global, core: &mut Core) -> Result<String, AllocError>
     ensures machines { core.new.machines ≡ core.old.machines }
-    ensures text { IfOk result (λ text. string_bytes text ≡ step_line (first_ready core.old.office)) }
+    ensures text { IfOk result (λ text.
+        string_bytes text ≡ step_line (first_ready core.old.office)) }
     ensures office { IfOk result (λ _.
         core.new.office ≡ office_after core.old.machines core.old.office Line.Turn) }
 {
