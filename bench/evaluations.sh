@@ -22,7 +22,7 @@ use std::alloc::Global;
 use std::env;
 use std::time::Instant;
 use xs_data::Items;
-use xs_model::{Arithmetic, Binary, Env, EvalFault, Expr, Fields, Source, Text, Value, eval};
+use xs_model::{Arithmetic, Binary, Env, EvalFault, Expr, Fields, PathRoot, Text, Value, eval};
 
 // A map with one member.
 fn context(alloc: Global, key: &str, value: Value) -> Result<Value, EvalFault> {
@@ -35,7 +35,7 @@ fn context(alloc: Global, key: &str, value: Value) -> Result<Value, EvalFault> {
 
 // An operator on what stands at a path of the context, and a second operand.
 fn expression(alloc: Global, op: Binary, path: &str, second: Expr) -> Result<Expr, EvalFault> {
-    let first = Expr::Path(Source::Context, Text::from_str(alloc, path)?);
+    let first = Expr::Path(PathRoot::Context, Text::from_str(alloc, path)?);
     Ok(Expr::Binary(op, Boxed::new(alloc, first)?, Boxed::new(alloc, second)?))
 }
 

@@ -22,7 +22,8 @@ pub struct Invocation {
 /// The invocations of a node, in the order of the text.
 pub type Invocations = Items<Invocation>;
 
-/// The delays after which a node gets events: for each the event's type and the expression of its length.
+/// The delays after which a node gets events: for each the event's type, and the expression of how
+/// long it is.
 pub type Delays = Items<(Text, Expr)>;
 
 /// A list of texts.

@@ -9,9 +9,10 @@ use crate::guard::GuardUse;
 use std::alloc::Global;
 use xs_model::{Env, EvalFault, Expr, Value, eval};
 
-/// Whether a guard holds where these nodes are active. Its parts are looked at from left to right, up to
-/// the first that decides or has a fault. A test reads its own params, and is Kind where it gives no truth
-/// value; other faults are those of its expression. `In` costs a look by halves, a test its evaluation.
+/// Whether a guard holds where these nodes are active. Its parts are looked at from left to right, up
+/// to the first that decides or has a fault. A test reads its own params, and is Kind where it gives
+/// no truth value; other faults are those of its expression. `In` costs a look by halves, a test its
+/// evaluation.
 pub fn holds(
     alloc: Global,
     guard: &GuardUse,

@@ -4,8 +4,8 @@ ghost use Rattle.guard_eval.specs.Laws.{WellFormedIsStatechart, WellFormedNamesI
 
 use crate::def::Def;
 
-/// What a well-formed definition's transitions, initial children, history defaults and guards name as
-/// nodes are nodes of its tree.
+/// What a well-formed definition's transitions, initial children, history defaults and guards name
+/// as nodes are nodes of its tree.
 pub fn well_formed_names_its_nodes(def: &Def)
     ensures { WellFormedNamesItsNodes def.now }
 {

@@ -20,11 +20,12 @@ pub type ActionUses = Items<ActionUse>;
 pub struct Transition {
     /// The node that it leads from.
     pub source: u32,
-    /// For which types of events it is: a type, or a pattern that ends in `*`. One of `always` has none.
+    /// For which types of events it is: a type, or a pattern that ends in `*`. One of `always` is for
+    /// no event, whatever stands here.
     pub descriptor: Text,
     /// Where it leads, in the order of the text. Without one it leaves and enters nothing.
     pub targets: Targets,
-    /// Whether it leaves its source even where all targets lie below.
+    /// Whether it leaves its source even where each target is the source or below it.
     pub reenter: bool,
     /// Without one it is enabled whenever its event comes.
     pub guard: Option<GuardUse>,

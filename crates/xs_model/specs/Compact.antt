@@ -28,7 +28,8 @@ layer_text (Value-F.Bool false) = codes "false"
 layer_text (Value-F.Int number) = signed_decimal number
 layer_text (Value-F.Text text) = quoted_text text
 layer_text (Value-F.List members) = bracketed_text opening_bracket closing_bracket members
-layer_text (Value-F.Map members) = bracketed_text opening_brace closing_brace (map member_text members)
+layer_text (Value-F.Map members) =
+    bracketed_text opening_brace closing_brace (map member_text members)
 
 -- a value as JSON with no space, its members in the order of their keys
 abbrev pub compact_text : Value → List ℕ

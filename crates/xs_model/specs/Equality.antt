@@ -14,7 +14,7 @@ pass_in_turn _ _ = false
 abbrev pub both_pass : {X : Type 0} → List ℕ × (X → Bool) → List ℕ × X → Bool
 both_pass test member = bytes_eq test.0 member.0 && test.1 member.1
 
--- one layer beside another: the same kind, and the parts of the first pass those of the second in turn
+-- one layer beside another: of one kind, and the parts of the first pass those of the second in turn
 abbrev pub same_layer : Value-F (Value → Bool) → Value-F Value → Bool
 same_layer Value-F.Null Value-F.Null = true
 same_layer (Value-F.Bool true) (Value-F.Bool b) = b

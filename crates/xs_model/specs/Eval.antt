@@ -1,4 +1,4 @@
--- What an expression gives in an environment: the table of forms, one equation for each row.
+-- What an expression gives in a scope: the table of forms, one equation for each row.
 use Rattle.std.specs.Prelude.{◌≡◌, ◌≢◌, MatchResult, ℕ, ◌-◌, ◌^◌, Bool, true, false, not, ◌&&◌, List, [], ◌∷◌, ◌++◌, length, map, fold, Option, Some, None, Result, Ok, Err, if◌then◌else◌, nat_le, ℤ, pos, negsuc, ◌+ℤ◌, ◌-ℤ◌, ◌*ℤ◌, int_lt, int_le, int_div, int_rem}
 use Rattle.std.specs.Ordering.{nat_cmp, int_eq, is_lt, is_le}
 use Rattle.std.specs.Cmp.Lexicographic.{slice_cmp}
@@ -40,7 +40,12 @@ pub record Scope : Type 0 where
 
 -- the values that an environment lends
 abbrev pub scope_of : Env → Scope
-scope_of env = record { context = env.context.now; event = env.event.now; params = env.params.now; input = env.input.now }
+scope_of env = record {
+  context = env.context.now;
+  event = env.event.now;
+  params = env.params.now;
+  input = env.input.now;
+}
 
 -- what an evaluation gives: a value or a fault
 abbrev pub Evaluation : Type 0
@@ -71,7 +76,8 @@ value_if_small evaluation = one evaluation (λ x. if is_small x then Ok x else E
 
 -- a number of 64 bits with sign
 abbrev pub in_range : ℤ → Evaluation
-in_range n = if int_le (negsuc (2 ^ 63 - 1)) n && int_le n (pos (2 ^ 63 - 1)) then Ok (value.Int n) else Err Range
+in_range n =
+    if int_le (negsuc (2 ^ 63 - 1)) n && int_le n (pos (2 ^ 63 - 1)) then Ok (value.Int n) else Err Range
 
 -- ---- operators on values
 
@@ -100,8 +106,10 @@ arithmetic _ _ _ = Err Kind
 
 -- towards zero; Range for a divisor of zero
 abbrev pub division : Division → Value-F Value → Value-F Value → Evaluation
-division Div (Value-F.Int m) (Value-F.Int n) = if int_eq n (pos 0) then Err Range else in_range (int_div m n)
-division Rem (Value-F.Int m) (Value-F.Int n) = if int_eq n (pos 0) then Err Range else in_range (int_rem m n)
+division Div (Value-F.Int m) (Value-F.Int n) =
+    if int_eq n (pos 0) then Err Range else in_range (int_div m n)
+division Rem (Value-F.Int m) (Value-F.Int n) =
+    if int_eq n (pos 0) then Err Range else in_range (int_rem m n)
 division _ _ _ = Err Kind
 
 abbrev pub concat : Value-F Value → Value-F Value → Evaluation
@@ -127,8 +135,10 @@ len _ = Err Kind
 abbrev pub compare : Comparison → Value-F Value → Value-F Value → Evaluation
 compare Less (Value-F.Int m) (Value-F.Int n) = Ok (value.Bool (int_lt m n))
 compare LessOrEqual (Value-F.Int m) (Value-F.Int n) = Ok (value.Bool (int_le m n))
-compare Less (Value-F.Text s) (Value-F.Text t) = Ok (value.Bool (is_lt (slice_cmp nat_cmp s t)))
-compare LessOrEqual (Value-F.Text s) (Value-F.Text t) = Ok (value.Bool (is_le (slice_cmp nat_cmp s t)))
+compare Less (Value-F.Text s) (Value-F.Text t) =
+    Ok (value.Bool (is_lt (slice_cmp nat_cmp s t)))
+compare LessOrEqual (Value-F.Text s) (Value-F.Text t) =
+    Ok (value.Bool (is_le (slice_cmp nat_cmp s t)))
 compare _ _ _ = Err Kind
 
 -- a truth value; another kind is Kind
@@ -189,7 +199,8 @@ list_of parts = one (collect parts) (λ members. Ok (value.List members))
 
 -- the map of what the parts give
 abbrev pub map_of : List (List ℕ × Evaluation) → Evaluation
-map_of parts = one (collect (map member_of parts)) (λ members. Ok (value.Map (members_by_key members)))
+map_of parts =
+    one (collect (map member_of parts)) (λ members. Ok (value.Map (members_by_key members)))
 
 -- ---- the table
 
@@ -219,7 +230,8 @@ is_scalar _ = false
 
 -- what an expression gives whose parts give these outcomes
 abbrev pub within_limits : Scope → Expr-F Evaluation → Evaluation
-within_limits scope layer = if is_scalar layer then row scope layer else value_if_small (row scope layer)
+within_limits scope layer =
+    if is_scalar layer then row scope layer else value_if_small (row scope layer)
 
 -- what an expression gives
 abbrev pub outcome : Scope → Expr → Evaluation
@@ -227,4 +239,5 @@ outcome scope = fold-Expr Evaluation (within_limits scope)
 
 -- the result is this evaluation, unless there was no memory
 abbrev pub Evaluates : {X : Type 0} → Result X EvalFault → Result X EvalFault → Type 0
-Evaluates result expected = MatchResult result (λ x. expected ≡ Ok x) (λ fault. fault ≢ Memory → expected ≡ Err fault)
+Evaluates result expected =
+    MatchResult result (λ x. expected ≡ Ok x) (λ fault. fault ≢ Memory → expected ≡ Err fault)

@@ -23,13 +23,17 @@ HasNumbersOf64Bits = every-Value IsOf64Bits
 
 -- unequal values have unequal compact texts
 abbrev pub CompactTextIsInjective : Type 0
-CompactTextIsInjective = (a b : Value) → HasNumbersOf64Bits a → HasNumbersOf64Bits b → compact_text a ≡ compact_text b → a ≡ b
+CompactTextIsInjective =
+    (a b : Value) → HasNumbersOf64Bits a → HasNumbersOf64Bits b
+    → compact_text a ≡ compact_text b → a ≡ b
 
 -- of what was put under a key the last counts, and nothing is changed under another key
 pub record LastPutWins (X : Type 0) : Type 0 where
   -- after a second put under the key nothing is left of the first
-  pub last : (pairs : List (List ℕ × X)) (key : List ℕ) (x y : X) → put (put pairs key x) key y ≡ put pairs key y
+  pub last : (pairs : List (List ℕ × X)) (key : List ℕ) (x y : X)
+      → put (put pairs key x) key y ≡ put pairs key y
   -- what was put is what is found
   pub held : (pairs : List (List ℕ × X)) (key : List ℕ) (x : X) → get key (put pairs key x) ≡ Some x
   -- what is found under another key is what was found before
-  pub others : (pairs : List (List ℕ × X)) (key other : List ℕ) (x : X) → other ≢ key → get other (put pairs key x) ≡ get other pairs
+  pub others : (pairs : List (List ℕ × X)) (key other : List ℕ) (x : X)
+      → other ≢ key → get other (put pairs key x) ≡ get other pairs

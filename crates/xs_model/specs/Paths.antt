@@ -14,7 +14,8 @@ path_keys (b ∷ bs) = slice_split (λ c. c == full_stop) (b ∷ bs)
 -- the member whose place in decimal is the key, where the first has this place
 abbrev pub member_at : List ℕ → ℕ → List Value → Option Value
 member_at key place [] = None
-member_at key place (member ∷ members) = if bytes_eq key (decimal place) then Some member else member_at key (suc place) members
+member_at key place (member ∷ members) =
+    if bytes_eq key (decimal place) then Some member else member_at key (suc place) members
 
 -- what a key finds in one layer: a member of a list by its place from 0, a member of a map by its key
 abbrev pub layer_step : List ℕ → Value-F Value → Option Value

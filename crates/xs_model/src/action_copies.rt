@@ -86,8 +86,7 @@ fn copy_raise(
     ensures { IfOk result (λ copied. copied ≡ Action.Raise event.now delay.now id.now) }
 {
     let event = copy_expr(alloc, event)?;
-    let delay = copy_optional(alloc, delay)?;
-    let id = copy_optional(alloc, id)?;
+    let (delay, id) = copy_both(alloc, delay, id)?;
     Ok(Action::Raise { event, delay, id })
 }
 
@@ -103,8 +102,7 @@ fn copy_send_to(
 {
     let target = copy_target(alloc, target)?;
     let event = copy_expr(alloc, event)?;
-    let delay = copy_optional(alloc, delay)?;
-    let id = copy_optional(alloc, id)?;
+    let (delay, id) = copy_both(alloc, delay, id)?;
     Ok(Action::SendTo {
         target,
         event,
@@ -124,8 +122,7 @@ fn copy_spawn_child(
         (λ copied. copied ≡ Action.SpawnChild src id.now input.now system.now) }
 {
     let id = copy_optional(alloc, id)?;
-    let input = copy_optional(alloc, input)?;
-    let system = copy_optional(alloc, system)?;
+    let (input, system) = copy_both(alloc, input, system)?;
     Ok(Action::SpawnChild {
         src,
         id,
@@ -153,4 +150,16 @@ fn copy_optional(alloc: Global, part: &Option<Expr>) -> Result<Option<Expr>, All
         Some(expr) => Ok(Some(copy_expr(alloc, expr)?)),
         None => Ok(None),
     }
+}
+
+/// Copies of two parts that a form may lack.
+fn copy_both(
+    alloc: Global,
+    first: &Option<Expr>,
+    second: &Option<Expr>,
+) -> Result<(Option<Expr>, Option<Expr>), AllocError>
+    ensures { IfOk result (λ copied. copied ≡ (first.now, second.now)) }
+{
+    let copied = copy_optional(alloc, first)?;
+    Ok((copied, copy_optional(alloc, second)?))
 }

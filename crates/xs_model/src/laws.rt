@@ -40,8 +40,8 @@ pub fn numbers_are_of_64_bits(value: &Value)
     }
 }
 
-/// Two values in a program have the same compact text exactly where they are the same, so what `same`
-/// and `$eq` answer is what a reader of the two texts sees.
+/// Two values in a program have the same compact text exactly where they are the same, so what
+/// `same` and `$eq` answer is what a reader of the two texts sees.
 pub fn compact_texts_tell_values_apart(a: &Value, b: &Value)
     ensures { (compact_text a.now ≡ compact_text b.now) ↔ (a.now ≡ b.now) }
 {

@@ -65,8 +65,8 @@ impl<T> Names<T> {
         }
     }
 
-    /// At which place a name stands in the order of insertion, counted from 0, found by a hash of its
-    /// bytes. It takes no memory.
+    /// At which place a name stands in the order of insertion, counted from 0, found by a hash of
+    /// its bytes. It takes no memory.
     pub fn place_of(&self, key: &[u8]) -> Option<usize>
         ensures { result ≡ position (λ pair. bytes_eq key.now pair.0) self.now }
     {
@@ -76,7 +76,8 @@ impl<T> Names<T> {
         }
     }
 
-    /// The name and the value at a place in the order of insertion, counted from 0. It takes no memory.
+    /// The name and the value at a place in the order of insertion, counted from 0. It takes no
+    /// memory.
     pub fn at(&self, place: usize) -> Option<(&str, &T)>
         ensures { option_map (λ pair. (pair.0.now, pair.1.now)) result ≡ slice_get self.now place }
     {
@@ -105,8 +106,8 @@ impl<T: Drop> Names<T> {
         }
     }
 
-    /// Takes out what a name stands for. The others keep their order, so it moves those after it. It
-    /// takes no memory.
+    /// Takes out what a name stands for. The others keep their order, so it moves those after it.
+    /// It takes no memory.
     pub fn take(&mut self, key: &[u8]) -> Option<T>
         ensures value { result ≡ get key.now self.old }
         ensures rest { self.new ≡ without key.now self.old }
