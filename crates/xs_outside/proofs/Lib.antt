@@ -1,5 +1,4 @@
 pub mod CrashLemmas
-pub mod DiskCallLemmas
 pub mod ImageLemmas
 pub mod MomentLemmas
 pub mod OutputLemmas

@@ -1,5 +1,5 @@
 -- What a disk in memory tells of itself, from the histories of its sides.
-use Rattle.std.specs.Prelude.{◌≡◌, ℕ, List, reverse, true}
+use Rattle.std.specs.Prelude.{ℕ, List, reverse, true}
 use Rattle.xs_outside.specs.Beside.{nothing}
 use Rattle.xs_outside.specs.Crash.{sides_after_crashes, images_of}
 use Rattle.xs_outside.specs.Disk.{Sides, DiskState}
@@ -31,17 +31,6 @@ state_of_history disk = record {
   honest = true;
   beside = nothing;
 }
-
--- nothing of a side's history changed
-abbrev pub SameHistory : SideHistory → SideHistory → Type 0
-SameHistory old new = (new.start ≡ old.start) × (new.changes.items ≡ old.changes.items)
-
--- nothing that a disk tells changed
-pub record Untouched (old new : DiskHistory) : Type 0 where
-  pub a : SameHistory old.a new.a
-  pub b : SameHistory old.b new.b
-  pub content : sides_of_history new ≡ sides_of_history old
-  pub clock : new.clock ≡ old.clock
 
 -- each way in which a crash may end for the one side with each for the other, and the output
 abbrev pub tried_images : DiskHistory → List ℕ → List Image

@@ -1,12 +1,9 @@
 -- Which calls of an object in memory fail.
-use Rattle.std.specs.Prelude.{◌≡◌, ℕ, List, ◌+◌, ◌-◌, ◌^◌, min, Bool, false, ◌||◌, ◌==◌, None, Some, if◌then◌else◌}
+use Rattle.std.specs.Prelude.{◌≡◌, ℕ, List, ◌-◌, Bool, false, ◌||◌, ◌==◌, None, Some, if◌then◌else◌}
 use Rattle.std.specs.List.{list_any}
 use Rattle.std.specs.declared.option.Option.{Option}
+use Rattle.xs_outside.specs.Counts.{saturating_next}
 use Rattle.xs_outside.specs.declared.memory.schedule.Schedule.{Schedule}
-
--- the next number that 64 bits hold
-abbrev pub saturating_next : ℕ → ℕ
-saturating_next n = min (n + 1) (2 ^ 64 - 1)
 
 -- no call of the disk is left
 abbrev pub is_stopped : Option ℕ → Bool

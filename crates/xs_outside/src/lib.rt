@@ -1,6 +1,6 @@
-//! The outside of an office, as its code sees it: a source of input, a sink for output and a disk of two
-//! sides that may crash at any moment, each with a count of its faults, and the same in memory with lists
-//! of calls that fail.
+//! The outside of an office, as its code sees it: a source of input, a sink for output and a disk of
+//! two sides that may crash at any moment, each with a count of its faults, and the same in memory
+//! with lists of calls that fail.
 #![tactic(auto)]
 
 mod disk;

@@ -1,4 +1,4 @@
-//! Streams of bytes whose ends may fail: what a call takes from a source and what it appends to a sink.
+//! Streams of bytes whose ends may fail: what a call takes from a source and appends to a sink.
 
 ghost use Rattle.std.specs.Prelude.{◌≡◌, ◌+◌, ◌≤◌, ◌<◌, ℕ, List, Result, length};
 ghost use Rattle.std.specs.declared.option.Option.{Option};
@@ -57,7 +57,8 @@ pub trait Sink {
     /// A write with this answer may lead from the first of these to the second.
     ghost writes: { Result Unit Refusal → Self → Self → Type 0 };
 
-    /// Appends the bytes. At `Failed` a front part of them may stand there, which may be none or all.
+    /// Appends the bytes. At `Failed` a front part of them may stand there, which may be none or
+    /// all.
     fn write(&mut self, bytes: &[u8]) -> Result<(), Failed>
         ensures adds { WriteAdds result bytes.now (written self.old) (written self.new) }
         ensures faults { CountsFailure result (write_faults self.old) (write_faults self.new) }
@@ -72,6 +73,8 @@ pub trait Both: Source + Sink {
         → (Self.written new ≡ Self.written old) × (Self.write_faults new ≡ Self.write_faults old) };
 
     /// A write leaves what is left, what was handed out, and the source's count.
-    ghost write_leaves: { (result : Result Unit Refusal) (old new : Self) → Self.writes result old new
-        → (Self.left new ≡ Self.left old) × (Self.taken new ≡ Self.taken old) × (Self.read_faults new ≡ Self.read_faults old) };
+    ghost write_leaves: { (result : Result Unit Refusal) (old new : Self)
+        → Self.writes result old new
+        → (Self.left new ≡ Self.left old) × (Self.taken new ≡ Self.taken old)
+        × (Self.read_faults new ≡ Self.read_faults old) };
 }

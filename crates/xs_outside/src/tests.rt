@@ -1,8 +1,8 @@
-// The memory objects through their traits: a call of each kind, one that fails by its list, and what a crash leaves.
+//! The objects in memory through their traits, with ample memory: each call, and what a crash leaves.
+
 ghost use Rattle.std.specs.Prelude.{◌<◌, length};
 
 use super::*;
-use std::alloc::{AllocError, Global};
 use std::test::Fail;
 
 fn take<S: Source>(source: &mut S, into: &mut [u8]) -> Got
@@ -13,25 +13,6 @@ fn take<S: Source>(source: &mut S, into: &mut [u8]) -> Got
 
 fn put<K: Sink>(sink: &mut K, bytes: &[u8]) -> bool {
     sink.write(bytes).is_ok()
-}
-
-// Which of four calls of a disk answer Ok: a length, a read of nothing, a write of a byte at the start, and a sync.
-fn four_calls<D: Disk>(disk: &mut D, side: Side) -> [bool; 4] {
-    [
-        disk.length(side).is_ok(),
-        disk.read(side, 0, &mut []).is_ok(),
-        disk.write(side, 0, b"x").is_ok(),
-        disk.sync(side).is_ok(),
-    ]
-}
-
-fn station(alloc: Global, fails: &[u64]) -> Result<MemoryStation, AllocError> {
-    MemoryStation::new(
-        b"in".to_vec(alloc)?,
-        Vec::new(alloc),
-        Vec::new(alloc),
-        fails.to_vec(alloc)?,
-    )
 }
 
 #[test]
@@ -62,48 +43,15 @@ fn streams_fail_where_listed(rt: HostRuntime) -> Result<(), Fail> {
 #[test]
 fn a_disk_reads_what_was_written(rt: HostRuntime) -> Result<(), Fail> {
     let alloc = rt.alloc();
-    let mut disk = MemoryDisk::new(b"abc".to_vec(alloc)?, Vec::new(alloc), Vec::new(alloc))?;
-    assert!(rt; disk.write(Side::A, 2, b"xy").is_ok() && disk.write(Side::B, 0, b"z").is_ok());
-    assert!(rt; disk.sync(Side::A).is_ok());
+    let fails = [5].to_vec(alloc)?;
+    let mut disk = MemoryDisk::new(b"abc".to_vec(alloc)?, Vec::new(alloc), fails)?;
+    assert!(rt; disk.write(Side::A, 2, b"xy").is_ok() && disk.sync(Side::A).is_ok());
     assert_eq!(rt; disk.length(Side::A), Ok(4));
-    assert_eq!(rt; disk.side(Side::A), b"abxy".as_slice());
-    assert_eq!(rt; disk.side(Side::B), b"z".as_slice());
     let mut into = [0; 3];
-    assert_eq!(rt; disk.length(Side::A), Ok(4));
     assert!(rt; disk.read(Side::A, 1, &mut into).is_ok());
     assert_eq!(rt; into.as_slice(), b"bxy".as_slice());
-    Ok(())
-}
-
-#[test]
-fn disk_calls_fail_where_listed(rt: HostRuntime) -> Result<(), Fail> {
-    let alloc = rt.alloc();
-    for number in 1..5_u64 {
-        let answers = [number != 1, number != 2, number != 3, number != 4];
-        let fails = [number].to_vec(alloc)?;
-        let mut disk = MemoryDisk::new(Vec::new(alloc), Vec::new(alloc), fails)?;
-        assert_eq!(rt; four_calls(&mut disk, Side::B), answers);
-        let mut station = station(alloc, &[number])?;
-        assert_eq!(rt; four_calls(&mut station, Side::B), answers);
-    }
-    Ok(())
-}
-
-#[test]
-fn a_stopped_station_does_nothing(rt: HostRuntime) -> Result<(), Fail> {
-    let alloc = rt.alloc();
-    let mut into = [0; 2];
-    let mut station = station(alloc, &[])?;
-    assert!(rt; put(&mut station, b"a"));
-    station.stop_after(3);
-    assert_eq!(rt;
-        four_calls(&mut station, Side::A),
-        [true, true, true, false]
-    );
-    assert!(rt; !put(&mut station, b"b"));
-    assert_eq!(rt; take(&mut station, &mut into), Got::Failed);
-    assert_eq!(rt; station.output(), b"a".as_slice());
-    assert_eq!(rt; station.side(Side::A), b"x".as_slice());
+    assert!(rt; disk.sync(Side::B).is_err());
+    assert_eq!(rt; disk.side(Side::A), b"abxy".as_slice());
     Ok(())
 }
 
@@ -136,8 +84,11 @@ fn a_crash_tears_what_is_not_synced(rt: HostRuntime) -> Result<(), Fail> {
         assert_eq!(rt; image.b.as_slice(), b"".as_slice());
         assert_eq!(rt; image.output.as_slice(), b"out".as_slice());
     }
-    assert!(rt; station.sync(Side::A).is_ok());
+    station.stop_after(1);
+    assert!(rt; station.sync(Side::A).is_ok() && station.sync(Side::B).is_err());
     let images = station.images()?;
     assert_eq!(rt; images.len(), 1);
+    assert_eq!(rt; station.side(Side::A), b"Axyz".as_slice());
+    assert_eq!(rt; station.output(), b"out".as_slice());
     Ok(())
 }

@@ -31,8 +31,8 @@ impl InputBuffer {
         }
     }
 
-    /// Copies as many of the next bytes to the front of the slice as there are or as fit, unless the
-    /// call is to fail.
+    /// Copies as many of the next bytes to the front of the slice as there are or as fit, unless
+    /// the call is to fail.
     pub fn read(&mut self, fails: bool, into: &mut [u8]) -> Got
         requires { 0 < length into.old }
         ensures gives { ReadGives result into.new

@@ -1,5 +1,5 @@
-//! A disk in memory. It fails at the calls that its list names, and tells what a crash at each moment may
-//! leave.
+//! A disk in memory. It fails at the calls that its list names, and tells what a crash at each
+//! moment may leave.
 
 ghost use Rattle.std.specs.Prelude.{◌≡◌, ◌≤◌, IfOk};
 
@@ -18,10 +18,10 @@ pub struct MemoryDisk {
 }
 
 impl MemoryDisk {
+    ghost use Rattle.xs_outside.specs.Counts.{saturating_next};
     ghost use Rattle.xs_outside.specs.Disk.{on};
     ghost use Rattle.xs_outside.specs.MemoryDisk.{IsFreshDisk, IsNewDisk, state_of_disk};
-    ghost use Rattle.xs_outside.specs.DiskHistory.{state_of_history};
-    ghost use Rattle.xs_outside.specs.Schedule.{is_due, Counted, saturating_next};
+    ghost use Rattle.xs_outside.specs.Schedule.{is_due, Counted};
     ghost use Rattle.xs_outside.specs.Station.{KeepsDisk};
 
     /// A disk whose sides hold these bytes, nothing pending, whose calls with these numbers fail,
@@ -46,8 +46,8 @@ impl MemoryDisk {
         self.sides.side(side)
     }
 
-    /// Lets a call of a stream go by, which a station counts together with those of its disk, and tells
-    /// whether it is to fail.
+    /// Lets a call of a stream go by, which a station counts together with those of its disk, and
+    /// tells whether it is to fail.
     pub fn stream_call_fails(&mut self) -> bool
         ensures due { result ≡ is_due self.old.schedule }
         ensures counted { Counted self.old.schedule self.new.schedule }
@@ -57,15 +57,12 @@ impl MemoryDisk {
         self.schedule.next_fails()
     }
 
-    /// Lets a call of the disk go by that fails, and counts it.
+    /// Counts a fault.
     fn fail(&mut self) -> Failed
-        ensures kept { KeepsDisk (state_of_history self.old.sides) (state_of_history self.new.sides) }
         ensures faults { self.new.faults ≡ saturating_next self.old.faults }
         ensures later { self.old.faults ≤ self.new.faults }
-        ensures fetched { self.new.fetched ≡ self.old.fetched }
-        ensures schedule { self.new.schedule ≡ self.old.schedule }
+        ensures kept { self.new ≡ record self.old { faults = self.new.faults } }
     {
-        self.sides.tick();
         self.faults = self.faults.saturating_add(1);
         Failed
     }
@@ -84,18 +81,18 @@ impl Disk for MemoryDisk {
     ghost reads_an_image = { λ disk honest. reads_an_image disk.sides };
 
     fn length(&mut self, side: Side) -> Result<u64, Failed> {
+        self.sides.tick();
         if self.schedule.next_disk_call_fails() {
             return Err(self.fail());
         }
-        self.sides.tick();
         Ok(self.sides.side(side).len() as u64)
     }
 
     fn read(&mut self, side: Side, at: u64, into: &mut [u8]) -> Result<(), Failed> {
+        self.sides.tick();
         if self.schedule.next_disk_call_fails() {
             return Err(self.fail());
         }
-        self.sides.tick();
         let at = at as usize;
         into.copy_from_slice(&self.sides.side(side)[at..at + into.len()]);
         self.fetched = self.fetched.saturating_add(into.len() as u64);
@@ -104,6 +101,7 @@ impl Disk for MemoryDisk {
 
     fn write(&mut self, side: Side, at: u64, bytes: &[u8]) -> Result<(), Failed> {
         if self.schedule.next_disk_call_fails() {
+            self.sides.tick();
             return Err(self.fail());
         }
         if self.sides.write(side, at as usize, bytes).is_err() {
@@ -114,6 +112,7 @@ impl Disk for MemoryDisk {
 
     fn sync(&mut self, side: Side) -> Result<(), Failed> {
         if self.schedule.next_disk_call_fails() {
+            self.sides.tick();
             return Err(self.fail());
         }
         if self.sides.sync(side).is_err() {

@@ -20,9 +20,9 @@ pub struct DiskHistory {
 
 impl DiskHistory {
     ghost use Rattle.std.specs.List.{All};
+    ghost use Rattle.xs_outside.specs.Counts.{saturating_next};
     ghost use Rattle.xs_outside.specs.Disk.{on, Changes, Written, Torn, NoMoreImages, NoFewerImages, SyncedImages, Passes, IsSettled};
-    ghost use Rattle.xs_outside.specs.DiskHistory.{sides_of_history, state_of_history, MayLeave, Untouched, tried_images, sides_of_image};
-    ghost use Rattle.xs_outside.specs.Schedule.{saturating_next};
+    ghost use Rattle.xs_outside.specs.DiskHistory.{sides_of_history, state_of_history, MayLeave, tried_images, sides_of_image};
     ghost use Rattle.xs_outside.specs.Station.{KeepsDisk};
 
     /// A disk whose sides hold these bytes, all synced.
@@ -49,8 +49,8 @@ impl DiskHistory {
         }
     }
 
-    /// What crashes now may leave: each side with its pending writes left out, with them done, and with
-    /// their ranges filled, beside each of the other side, and this output.
+    /// What crashes now may leave: each side with its pending writes left out, with them done, and
+    /// with their ranges filled, beside each of the other side, and this output.
     pub fn images(&self, output: &[u8]) -> Result<Images, AllocError>
         ensures tried { IfOk result (λ images. images ≡ tried_images self.now output.now) }
         ensures possible { IfOk result (λ images. All (λ image.
@@ -72,7 +72,7 @@ impl DiskHistory {
     }
 
     /// Writes bytes on a side over those from a place on, and past the end. For want of memory, and
-    /// at the end of time, it changes nothing.
+    /// at the end of time, only the time goes by.
     pub fn write(&mut self, side: Side, at: usize, bytes: &[u8]) -> Result<(), AllocError>
         requires { at ≤ length (on side (sides_of_history self.old)) }
         ensures written { OnOk result (Changes side (Written at bytes.now)
@@ -81,38 +81,36 @@ impl DiskHistory {
             (state_of_history self.old) (state_of_history self.new)) }
         ensures torn { OnOk result (NoFewerImages (Changes side (Torn at (length bytes.now)))
             (state_of_history self.old) (state_of_history self.new)) }
-        ensures time { OnOk result (Passes
+        ensures time { Passes (state_of_history self.old) (state_of_history self.new) }
+        ensures refused { OnErr result (KeepsDisk
             (state_of_history self.old) (state_of_history self.new)) }
-        ensures refused { OnErr result (Untouched self.old self.new) }
     {
         let Some(moment) = self.clock.checked_add(1) else {
             return Err(AllocError);
         };
-        match side {
-            Side::A => self.a.write(moment, at, bytes)?,
-            Side::B => self.b.write(moment, at, bytes)?,
-        }
         self.clock = moment;
-        Ok(())
+        match side {
+            Side::A => self.a.write(moment, at, bytes),
+            Side::B => self.b.write(moment, at, bytes),
+        }
     }
 
-    /// Syncs a side. For want of memory, and at the end of time, it changes nothing.
+    /// Syncs a side. For want of memory, and at the end of time, only the time goes by.
     pub fn sync(&mut self, side: Side) -> Result<(), AllocError>
         ensures content { sides_of_history self.new ≡ sides_of_history self.old }
         ensures synced { OnOk result (SyncedImages side
             (state_of_history self.old) (state_of_history self.new)) }
-        ensures time { OnOk result (Passes
+        ensures time { Passes (state_of_history self.old) (state_of_history self.new) }
+        ensures refused { OnErr result (KeepsDisk
             (state_of_history self.old) (state_of_history self.new)) }
-        ensures refused { OnErr result (Untouched self.old self.new) }
     {
         let Some(moment) = self.clock.checked_add(1) else {
             return Err(AllocError);
         };
-        match side {
-            Side::A => self.a.sync(moment)?,
-            Side::B => self.b.sync(moment)?,
-        }
         self.clock = moment;
-        Ok(())
+        match side {
+            Side::A => self.a.sync(moment),
+            Side::B => self.b.sync(moment),
+        }
     }
 }

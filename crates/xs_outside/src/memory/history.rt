@@ -1,4 +1,4 @@
-//! A side in memory with all its changes, from which it tells what a crash at each moment may leave.
+//! A side in memory with all its changes, from which it tells what crashes may leave of it.
 
 ghost use Rattle.std.specs.Prelude.{◌≡◌, ◌+◌, ◌≤◌, ◌∷◌, [], IsTrue, reverse, OnOk, OnErr, IfOk};
 ghost use Rattle.std.specs.Vec.{vec_len};
@@ -80,8 +80,8 @@ impl SideHistory {
     }
 }
 
-/// Puts bytes in the place of those from a place on, and past the end. For want of memory it changes
-/// nothing.
+/// Puts bytes in the place of those from a place on, and past the end. For want of memory it
+/// changes nothing.
 pub fn overwrite(content: &mut Vec<u8>, at: usize, bytes: &[u8]) -> Result<(), AllocError>
     ensures written { OnOk result (content.new.items
         ≡ side_after_write at bytes.now content.old.items) }

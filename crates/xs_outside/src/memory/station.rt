@@ -52,17 +52,17 @@ impl MemoryStation {
         })
     }
 
-    /// From now on the station makes so many calls of its disk. Every call after these, of any kind,
-    /// fails and does nothing but raise its count and the clock.
+    /// From now on the station makes so many calls of its disk. Every call after these, of any
+    /// kind, fails and does nothing but raise its count and the clock.
     pub fn stop_after(&mut self, k: u64)
         ensures { IsStoppedAfter k self.old self.new }
     {
         self.disk.schedule.stop_after(k);
     }
 
-    /// What a crash now may leave: each side with its pending writes left out, with them done, and with
-    /// their ranges filled with 0, 1 and 255 at the old and at the new length, beside each of the other
-    /// side. These are 1, 8 or 64 images, and each goes through all that was ever written.
+    /// What a crash now may leave: each side with its pending writes left out, with them done, and
+    /// with their ranges filled with 0, 1 and 255 at the old and at the new length, beside each of
+    /// the other side. These are 1, 8 or 64 images, and each goes through all that was ever written.
     pub fn images(&self) -> Result<Images, AllocError>
         ensures tried { IfOk result (λ images. images ≡ images_of_station self.now) }
         ensures possible { IfOk result (λ images. All (λ image.
@@ -132,9 +132,14 @@ impl Both for MemoryStation {
     ghost use Rattle.std.specs.Prelude.{Some};
     ghost use Rattle.xs_outside.specs.Buffers.{left_of};
 
-    ghost read_leaves = { λ got old new kept. (ap (λ o. Some o.buffer.bytes.items) kept.output, ap (λ o. o.buffer.faults) kept.output) };
+    ghost read_leaves = { λ got old new kept.
+        (ap (λ o. Some o.buffer.bytes.items) kept.output, ap (λ o. o.buffer.faults) kept.output) };
 
-    ghost write_leaves = { λ result old new kept. (ap (λ i. Some (left_of i)) kept.input, ap (λ i. i.place) kept.input, ap (λ i. i.faults) kept.input) };
+    ghost write_leaves = { λ result old new kept. (
+      ap (λ i. Some (left_of i)) kept.input,
+      ap (λ i. i.place) kept.input,
+      ap (λ i. i.faults) kept.input,
+    ) };
 }
 
 impl Disk for MemoryStation {
@@ -169,9 +174,14 @@ impl Disk for MemoryStation {
 impl Station for MemoryStation {
     ghost use Rattle.std.proofs.Common.{refl};
 
-    ghost tells_input = { λ station. record { input = refl; handed_out = refl; read_faults = refl } };
+    ghost tells_input = { λ station.
+        record { input = refl; handed_out = refl; read_faults = refl } };
 
-    ghost tells_output = { λ station. record { output = refl; write_faults = refl; moments = record { each = station.output.each; past = station.in_the_past } } };
+    ghost tells_output = { λ station. record {
+      output = refl;
+      write_faults = refl;
+      moments = record { each = station.output.each; past = station.in_the_past };
+    } };
 
     ghost read_leaves_disk = { λ got old new kept. kept.disk };
 

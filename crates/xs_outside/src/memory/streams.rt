@@ -178,7 +178,12 @@ impl Both for MemoryLink {
     ghost use Rattle.std.specs.Prelude.{Some};
     ghost use Rattle.xs_outside.specs.Buffers.{left_of};
 
-    ghost read_leaves = { λ got old new kept. (ap (λ o. Some o.bytes.items) kept.output, ap (λ o. o.faults) kept.output) };
+    ghost read_leaves = { λ got old new kept.
+        (ap (λ o. Some o.bytes.items) kept.output, ap (λ o. o.faults) kept.output) };
 
-    ghost write_leaves = { λ result old new kept. (ap (λ i. Some (left_of i)) kept.input, ap (λ i. i.place) kept.input, ap (λ i. i.faults) kept.input) };
+    ghost write_leaves = { λ result old new kept. (
+      ap (λ i. Some (left_of i)) kept.input,
+      ap (λ i. i.place) kept.input,
+      ap (λ i. i.faults) kept.input,
+    ) };
 }
