@@ -1,3 +1,5 @@
+pub mod DefaultLemmas
+pub mod FaultLemmas
 pub mod NameLemmas
 pub mod PlaceLemmas
 pub mod RisingLemmas

@@ -1,6 +1,6 @@
 -- Maps from names to nodes.
-use Rattle.std.proofs.Common.{◌≡◌, ◌<◌, ◌+◌, ℕ, Bool, true, false, cond, ◌&&◌, List, [], ◌∷◌, length, take, get_or, arith, refl, sym, ◌∙◌, ap}
-use Rattle.std.specs.Prelude.{Option, Some, None, is_none, is_some, nat_eq}
+use Rattle.std.proofs.Common.{◌≡◌, ◌<◌, ◌+◌, ℕ, Bool, true, false, cond, ◌&&◌, List, [], ◌∷◌, length, take, get_or, arith, refl, sym, ◌∙◌, ap, below_more}
+use Rattle.std.specs.Prelude.{Option, Some, None, MatchOption, is_none, nat_eq}
 use Rattle.std.specs.Map.{lookup}
 use Rattle.std.specs.BTreeMap.{insert_entry, is_at}
 use Rattle.std.specs.Cmp.Lexicographic.{slice_cmp}
@@ -11,9 +11,9 @@ use Rattle.std.specs.declared.cmp.Ordering.TheVariants.{Less, Equal, Greater}
 use Rattle.std.proofs.lemmas.Map.Text.{is_eq-slice_cmp}
 use Rattle.std.proofs.lemmas.Slice.Eq.{bytes_eq-Decides}
 use Rattle.std.proofs.lemmas.Bool.{false_from_ne_true}
-use Rattle.std.specs.Option.{option_eq}
+use Rattle.std.specs.Option.{option_and, option_eq, option_or}
 use Rattle.node_tree.specs.declared.node.Node.{Node}
-use Rattle.node_tree.specs.Nodes.{id_at, child_of, id_of, HasNewId}
+use Rattle.node_tree.specs.Nodes.{id_at, child_of, id_of, HasNewId, IsFirstBreach}
 use Rattle.node_tree.proofs.PlaceLemmas.{position_more, position_none}
 use Rattle.std.proofs.lemmas.Option.{slice_get-get_or}
 use Rattle.std.proofs.lemmas.List.{get_or-take, length-take-le}
@@ -135,11 +135,14 @@ id_is_old nodes n node k inside is found fresh =
     let less : k < n = rw (length-take-le n nodes (omega arith)) at at.0 in
     fresh k less ((same_ids nodes k n node less inside is).1 at.1)
 
--- which value an option has, by the test
-pub some_of : (o : Option ℕ) → true ≡ is_some o → (k : ℕ) × (o ≡ Some k)
-some_of None h = cc
-some_of (Some k) h = (k, refl)
+-- the first row before a number whose id an earlier one has, or none
+abbrev pub RepeatsBefore : List Node → ℕ → Option ℕ → Type 0
+RepeatsBefore nodes end repeated =
+    MatchOption repeated ((k : ℕ) → k < end → HasNewId nodes k) (IsFirstBreach (HasNewId nodes) end)
 
-pub none_of : (o : Option ℕ) → false ≡ is_some o → o ≡ None
-none_of None h = refl
-none_of (Some k) h = cc
+-- one more row, by whether an earlier one has its id
+pub repeats_next : (nodes : List Node) (n : ℕ) (node : Node) (repeated before : Option ℕ) → n < length nodes → node ≡ get_or nodes n node
+    → id_at (take n nodes) node.id ≡ before → RepeatsBefore nodes n repeated → RepeatsBefore nodes (n + 1) (option_or repeated (option_and before (Some n)))
+repeats_next nodes n node (Some k) before inside is there first = record { inside = let less = first.inside in omega arith; broken = first.broken; before = first.before }
+repeats_next nodes n node None None inside is none fresh = below_more (HasNewId nodes) n fresh (id_is_new nodes n node inside is none)
+repeats_next nodes n node None (Some k) inside is found fresh = record { inside = omega arith; broken = id_is_old nodes n node k inside is found; before = fresh }

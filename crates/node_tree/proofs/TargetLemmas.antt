@@ -13,7 +13,8 @@ use Rattle.std.specs.Str.{bytes_eq}
 use Rattle.node_tree.specs.declared.node.Node.{Node}
 use Rattle.node_tree.specs.declared.node.TheConstants.{DOT}
 use Rattle.node_tree.proofs.PlaceLemmas.{position_inside, position_none}
-use Rattle.node_tree.specs.Targets.{keys_of, keys_after_dot, down, largest, ends_key, id_front, from_id, BeginsWithId, BeginsWithLongestId}
+use Rattle.node_tree.specs.Laws.{BeginsWithId, BeginsWithLongestId}
+use Rattle.node_tree.specs.Targets.{path_keys, keys_after_dot, down, largest, ends_key, id_front, from_id}
 use Rattle.node_tree.specs.Nodes.{child_of, id_at}
 
 -- the rest of a slice, as a range without an end gives it
@@ -21,7 +22,7 @@ pub take-rest : {X : Type 0} (k : ℕ) (xs : List X) → take (length xs - k) (d
 take-rest k xs = take_all (length xs - k) (drop k xs) (rw length-drop (omega arith))
 
 -- the first key ends at the first dot
-pub first_key : (text : List ℕ) (dot : ℕ) → position (λ b. nat_eq b DOT) text ≡ Some dot → keys_of text ≡ take dot text ∷ keys_of (drop (dot + 1) text)
+pub first_key : (text : List ℕ) (dot : ℕ) → position (λ b. nat_eq b DOT) text ≡ Some dot → path_keys text ≡ take dot text ∷ path_keys (drop (dot + 1) text)
 first_key text dot h =
     let p : ℕ → Bool = λ b. nat_eq b DOT in
     let at = position-Some p text dot 0 h in
@@ -29,7 +30,7 @@ first_key text dot h =
     rw (slice_split_first p text 0 (rw place at.0), place) refl
 
 -- a text with no dot is one key
-pub only_key : (text : List ℕ) → position (λ b. nat_eq b DOT) text ≡ None → keys_of text ≡ text ∷ []
+pub only_key : (text : List ℕ) → position (λ b. nat_eq b DOT) text ≡ None → path_keys text ≡ text ∷ []
 only_key text h =
     let p : ℕ → Bool = λ b. nat_eq b DOT in
     slice_split_none p text (λ k d inside. position_none p text h k d inside)
@@ -39,10 +40,10 @@ down-none nodes [] = refl
 down-none nodes (key ∷ keys) = down-none nodes keys
 
 -- a step down by the first of some keys
-pub down-step : (nodes : List Node) (n : ℕ) (text key rest : List ℕ) (next : Option ℕ) → keys_of text ≡ key ∷ keys_of rest → next ≡ child_of nodes n key → down nodes (Some n) (keys_of text) ≡ down nodes next (keys_of rest)
+pub down-step : (nodes : List Node) (n : ℕ) (text key rest : List ℕ) (next : Option ℕ) → path_keys text ≡ key ∷ path_keys rest → next ≡ child_of nodes n key → down nodes (Some n) (path_keys text) ≡ down nodes next (path_keys rest)
 down-step nodes n text key rest next split is = rw (split, is) refl
 
-pub down-last : (nodes : List Node) (n : ℕ) (text : List ℕ) → keys_of text ≡ text ∷ [] → down nodes (Some n) (keys_of text) ≡ child_of nodes n text
+pub down-last : (nodes : List Node) (n : ℕ) (text : List ℕ) → path_keys text ≡ text ∷ [] → down nodes (Some n) (path_keys text) ≡ child_of nodes n text
 down-last nodes n text only = rw only refl
 
 -- a child is one of the nodes
@@ -84,26 +85,31 @@ none_unless None h = refl
 none_unless (Some m) h = absurd (h m refl)
 
 -- the fronts that are ids are the ids that a text begins with
-front_begins : (nodes : List Node) (text : List ℕ) (k m : ℕ) → id_front nodes text k ≡ Some m → BeginsWithId nodes text (take k text) (drop k text) m
+front_begins : (nodes : List Node) (text : List ℕ) (k m : ℕ) → id_front nodes text k ≡ Some m
+    → BeginsWithId nodes (take k text) (drop k text) m
 front_begins nodes text k m is =
     let parts = chosen (ends_key (drop k text)) (id_at nodes (take k text)) m is in
-    record { whole = sym (take-append-drop k text); ends = parts.0; found = parts.1 }
+    record { ends = parts.0; found = parts.1 }
 
-front_of : (nodes : List Node) (id rest : List ℕ) (n : ℕ) → ends_key rest ≡ true → id_at nodes id ≡ Some n → id_front nodes (id ++ rest) (length id) ≡ Some n
+front_of : (nodes : List Node) (id rest : List ℕ) (n : ℕ) → ends_key rest ≡ true → id_at nodes id ≡ Some n
+    → id_front nodes (id ++ rest) (length id) ≡ Some n
 front_of nodes id rest n ends found = rw (drop-append_seam id rest, take_at id rest (length id) refl, ends) found
 
-pub longest_id_leads : (nodes : List Node) (text id rest : List ℕ) (n : ℕ) → BeginsWithLongestId nodes text id rest n → from_id nodes text ≡ down nodes (Some n) (keys_after_dot rest)
-longest_id_leads nodes text id rest n h =
-    let whole = h.begins.whole in
-    let front : id_front nodes text (length id) ≡ Some n = ap (λ t. id_front nodes t (length id)) whole ∙ front_of nodes id rest n h.begins.ends h.begins.found in
-    let upto : length id ≤ length text = omega (arith, length-append id rest, ap length whole) in
+pub longest_id_leads : (nodes : List Node) (id rest : List ℕ) (n : ℕ) → BeginsWithLongestId nodes id rest n
+    → from_id nodes (id ++ rest) ≡ down nodes (Some n) (keys_after_dot rest)
+longest_id_leads nodes id rest n h =
+    let text : List ℕ = id ++ rest in
+    let front : id_front nodes text (length id) ≡ Some n = front_of nodes id rest n h.begins.ends h.begins.found in
+    let upto : length id ≤ length text = omega (arith, length-append id rest) in
     from_id-found nodes text (length id) n upto front
     (λ k after within. none_unless (id_front nodes text k) (λ m is.
-    let bound = h.longest (take k text) (drop k text) m (front_begins nodes text k m is) in
+    let bound = h.longest (take k text) (drop k text) m (take-append-drop k text) (front_begins nodes text k m is) in
     let len = length-take-le k text within in
     absurd (omega arith)))
-    ∙ ap (λ t. down nodes (Some n) (keys_after_dot (drop (length id) t))) whole
     ∙ ap (λ r. down nodes (Some n) (keys_after_dot r)) (drop-append_seam id rest)
 
-pub no_id_leads_nowhere : (nodes : List Node) (text : List ℕ) → ((id rest : List ℕ) (n : ℕ) → BeginsWithId nodes text id rest n → ⊥) → from_id nodes text ≡ None
-no_id_leads_nowhere nodes text h = from_id-none nodes text (λ k within. none_unless (id_front nodes text k) (λ m is. h (take k text) (drop k text) m (front_begins nodes text k m is)))
+pub no_id_leads_nowhere : (nodes : List Node) (text : List ℕ)
+    → ((id rest : List ℕ) (n : ℕ) → id ++ rest ≡ text → BeginsWithId nodes id rest n → ⊥) → from_id nodes text ≡ None
+no_id_leads_nowhere nodes text h =
+    from_id-none nodes text (λ k within. none_unless (id_front nodes text k) (λ m is.
+    h (take k text) (drop k text) m (take-append-drop k text) (front_begins nodes text k m is)))

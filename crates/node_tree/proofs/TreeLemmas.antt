@@ -6,7 +6,7 @@ use Rattle.std.proofs.lemmas.Bool.{cases_lt}
 use Rattle.std.proofs.lemmas.Option.{slice_get_cases, slice_get-get_or}
 use Rattle.node_tree.specs.Tables.{IsEnd}
 use Rattle.node_tree.specs.declared.node.Node.{Node}
-use Rattle.node_tree.specs.Nodes.{ArePlaced, IsBelow, child, further, IsChild, IsWithin, IsPlaced, IsTree, parent_of}
+use Rattle.node_tree.specs.Nodes.{ArePlaced, IsBelow, child, further, IsChild, IsWithin, IsPlaced, IsOutline, parent_of}
 
 module _ (nodes : List Node) where
   -- a node has one parent
@@ -101,19 +101,19 @@ module _ (nodes : List Node) where
     (λ (first, last). all low first last),
   )
 
--- the parent of a node of a tree stands before it
-pub parent_first : (nodes : List Node) → IsTree nodes → (low high : ℕ) → IsChild nodes low high → high < low
-parent_first nodes tree low high is =
-    above_first nodes (length nodes) (λ k inside. (tree.rows k inside).placed) low high (child_inside nodes low high is) (child low high is)
+-- the parent of a node of an outline stands before it
+pub parent_first : (nodes : List Node) → IsOutline nodes → (low high : ℕ) → IsChild nodes low high → high < low
+parent_first nodes outline low high is =
+    above_first nodes (length nodes) (λ k inside. (outline.rows k inside).placed) low high (child_inside nodes low high is) (child low high is)
 
 if_some : {X : Type 0} (o : Option X) (P : X → Type 0) → ((x : X) → o ≡ Some x → P x) → IfSome o P
 if_some None P h = tt
 if_some (Some x) P h = h x refl
 
 -- the parent that a read node names stands before it
-pub read_parent_first : (nodes : List Node) → IsTree nodes → (n : ℕ) (node : Node) → slice_get nodes n ≡ Some node → IfSome node.parent (λ parent. parent < n)
-read_parent_first nodes tree n node is =
-    if_some node.parent (λ parent. parent < n) (λ parent named. parent_first nodes tree n parent (rw is named))
+pub read_parent_first : (nodes : List Node) → IsOutline nodes → (n : ℕ) (node : Node) → slice_get nodes n ≡ Some node → IfSome node.parent (λ parent. parent < n)
+read_parent_first nodes outline n node is =
+    if_some node.parent (λ parent. parent < n) (λ parent named. parent_first nodes outline n parent (rw is named))
 
 -- what a read of a row says of its parent
 pub read_parent : (nodes : List Node) (n : ℕ) (d : Node) → n < length nodes → parent_of nodes n ≡ (get_or nodes n d).parent
@@ -184,13 +184,13 @@ pub below_inside : (nodes : List Node) (low high : ℕ) → IsBelow nodes low hi
 below_inside nodes low high (child _ _ is) = child_inside nodes low high is
 below_inside nodes low high (further _ parent _ is rest) = child_inside nodes low parent is
 
-tree_placed : (nodes : List Node) → IsTree nodes → ArePlaced nodes (length nodes)
-tree_placed nodes tree n inside = (tree.rows n inside).placed
+outline_placed : (nodes : List Node) → IsOutline nodes → ArePlaced nodes (length nodes)
+outline_placed nodes outline n inside = (outline.rows n inside).placed
 
-pub ancestors_first : (nodes : List Node) → IsTree nodes → (low high : ℕ) → IsBelow nodes low high → high < low
-ancestors_first nodes tree low high below = above_first nodes (length nodes) (tree_placed nodes tree) low high (below_inside nodes low high below) below
+pub ancestors_first : (nodes : List Node) → IsOutline nodes → (low high : ℕ) → IsBelow nodes low high → high < low
+ancestors_first nodes outline low high below = above_first nodes (length nodes) (outline_placed nodes outline) low high (below_inside nodes low high below) below
 
-pub subtrees_are_runs : (nodes : List Node) → IsTree nodes → (low high between : ℕ) → IsBelow nodes low high → high < between → between < low → IsBelow nodes between high
-subtrees_are_runs nodes tree low high between below after before =
+pub subtrees_are_runs : (nodes : List Node) → IsOutline nodes → (low high between : ℕ) → IsBelow nodes low high → high < between → between < low → IsBelow nodes between high
+subtrees_are_runs nodes outline low high between below after before =
     let inside = below_inside nodes low high below in
-    below_between nodes low (λ k upto. tree_placed nodes tree k (omega arith)) high below between after (omega arith)
+    below_between nodes low (λ k upto. outline_placed nodes outline k (omega arith)) high below between after (omega arith)

@@ -1,5 +1,5 @@
 -- What a target text leads to: `#id`, `#id.k.l`, `.k.l` and `k.l`.
-use Rattle.std.specs.Prelude.{◌≡◌, ◌≤◌, ◌==◌, ◌++◌, IsTrue, ℕ, zero, suc, Bool, true, List, [], ◌∷◌, length, take, drop, if◌then◌else◌, Option, Some, None, is_some}
+use Rattle.std.specs.Prelude.{◌==◌, ℕ, zero, suc, Bool, true, List, [], ◌∷◌, length, take, drop, if◌then◌else◌, Option, Some, None, is_some}
 use Rattle.std.specs.Option.{option_and_then}
 use Rattle.std.specs.List.{slice_split}
 use Rattle.node_tree.specs.declared.node.Node.{Node}
@@ -7,8 +7,8 @@ use Rattle.node_tree.specs.declared.node.TheConstants.{DOT, HASH}
 use Rattle.node_tree.specs.Nodes.{parent_of, child_of, id_at}
 
 -- the keys between the dots of a text
-abbrev pub keys_of : List ℕ → List (List ℕ)
-keys_of text = slice_split (λ b. b == DOT) text
+abbrev pub path_keys : List ℕ → List (List ℕ)
+path_keys text = slice_split (λ b. b == DOT) text
 
 -- the node that keys lead down to, each the key of a child
 abbrev pub down : List Node → Option ℕ → List (List ℕ) → Option ℕ
@@ -28,7 +28,7 @@ ends_key (b ∷ bs) = b == DOT
 -- the keys of a text that is empty or begins with a dot
 abbrev pub keys_after_dot : List ℕ → List (List ℕ)
 keys_after_dot [] = []
-keys_after_dot (b ∷ bs) = keys_of bs
+keys_after_dot (b ∷ bs) = path_keys bs
 
 -- the node whose id is the first bytes of a text, where they end the text or stand before a dot
 abbrev pub id_front : List Node → List ℕ → ℕ → Option ℕ
@@ -42,27 +42,8 @@ from_id nodes text =
 
 -- `#` leads to an id, a dot down from the source, and anything else down from the source's parent
 abbrev pub target_of : List Node → ℕ → List ℕ → Option ℕ
-target_of nodes source [] = down nodes (parent_of nodes source) (keys_of [])
+target_of nodes source [] = down nodes (parent_of nodes source) (path_keys [])
 target_of nodes source (b ∷ bs) =
     if b == HASH then from_id nodes bs
-    else if b == DOT then down nodes (Some source) (keys_of bs)
-    else down nodes (parent_of nodes source) (keys_of (b ∷ bs))
-
--- a text is the id of a node and a rest that is empty or begins with a dot
-pub record BeginsWithId (nodes : List Node) (text id rest : List ℕ) (n : ℕ) : Type 0 where
-  pub whole : text ≡ id ++ rest
-  pub ends : IsTrue (ends_key rest)
-  pub found : id_at nodes id ≡ Some n
-
--- no longer id is one that the text begins with
-pub record BeginsWithLongestId (nodes : List Node) (text id rest : List ℕ) (n : ℕ) : Type 0 where
-  pub begins : BeginsWithId nodes text id rest n
-  pub longest : (other more : List ℕ) (m : ℕ) → BeginsWithId nodes text other more m → length other ≤ length id
-
--- `#` and a text lead down from the longest id that the text begins with, whatever the source
-abbrev pub LongestIdLeads : Type 0
-LongestIdLeads = (nodes : List Node) (source : ℕ) (text id rest : List ℕ) (n : ℕ) → BeginsWithLongestId nodes text id rest n → target_of nodes source (HASH ∷ text) ≡ down nodes (Some n) (keys_after_dot rest)
-
--- where a text begins with no id, `#` and the text lead nowhere
-abbrev pub NoIdLeadsNowhere : Type 0
-NoIdLeadsNowhere = (nodes : List Node) (source : ℕ) (text : List ℕ) → ((id rest : List ℕ) (n : ℕ) → BeginsWithId nodes text id rest n → ⊥) → target_of nodes source (HASH ∷ text) ≡ None
+    else if b == DOT then down nodes (Some source) (path_keys bs)
+    else down nodes (parent_of nodes source) (path_keys (b ∷ bs))

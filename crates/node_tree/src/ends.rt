@@ -29,7 +29,8 @@ fn subtree_end(nodes: &[Node], ends: &[u32], n: u32) -> u32
     requires few { length nodes.now < 2 ^ 32 }
     requires placed { ArePlaced nodes.now (length nodes.now) }
     requires len { length ends.now ≡ length nodes.now }
-    requires later { (k : ℕ) → n < k → k < length nodes.now → IsEnd nodes.now k (slice_index ends.now k) }
+    requires later { (k : ℕ) → n < k → k < length nodes.now →
+        IsEnd nodes.now k (slice_index ends.now k) }
     ensures { IsEnd nodes.now n result }
 {
     let mut at = n + 1;

@@ -1,9 +1,9 @@
 //! What follows from the definitions: the contract of each function is a law, and its body is empty.
 
-ghost use Rattle.node_tree.specs.Nodes.{AncestorsFirst, SubtreesAreRuns};
-ghost use Rattle.node_tree.specs.Targets.{LongestIdLeads, NoIdLeadsNowhere};
+ghost use Rattle.node_tree.specs.Laws.{AncestorsFirst, LongestIdLeads, NoIdLeadsNowhere, SubtreesAreRuns};
 
-/// In a tree each node stands after what it is below, and each subtree is a run of rows.
+/// In an outline, and so in a tree, each node stands after what it is below, and each subtree is a run
+/// of rows.
 pub fn document_order()
     ensures ancestors { AncestorsFirst }
     ensures runs { SubtreesAreRuns }

@@ -1,3 +1,8 @@
+//! The nodes of a machine, and the lists of nodes that other crates speak of.
+
+ghost use Rattle.std.specs.Prelude.{◌≡◌, ◌↔◌, IsTrue};
+ghost use Rattle.node_tree.specs.Kinds.{IsHistoryKind, IsLeafKind, with_default};
+
 use xs_data::{Items, Text};
 
 /// What a node's key and id are: a text that contracts see as its bytes.
@@ -35,6 +40,37 @@ pub enum Kind {
     Shallow { default: Option<u32> },
     /// Stands for the leaves below its parent that were active last, or else for `default`.
     Deep { default: Option<u32> },
+}
+
+impl Kind {
+    /// Whether a node of this kind is a history node, shallow or deep.
+    pub fn is_history(&self) -> bool
+        ensures { IsTrue result ↔ IsHistoryKind self.now }
+    {
+        matches!(self, Kind::Shallow { .. } | Kind::Deep { .. })
+    }
+
+    /// Whether a node of this kind is a leaf, atomic or final.
+    pub fn is_leaf(&self) -> bool
+        ensures { IsTrue result ↔ IsLeafKind self.now }
+    {
+        matches!(self, Kind::Atomic | Kind::Final)
+    }
+
+    /// The same kind of history node with this default; any other kind as it is.
+    pub(crate) fn with_default(self, node: u32) -> Kind
+        ensures { result ≡ with_default self node }
+    {
+        match self {
+            Kind::Shallow { .. } => Kind::Shallow {
+                default: Some(node),
+            },
+            Kind::Deep { .. } => Kind::Deep {
+                default: Some(node),
+            },
+            Kind::Atomic | Kind::Compound { .. } | Kind::Parallel | Kind::Final => self,
+        }
+    }
 }
 
 /// One node of a machine.

@@ -1,4 +1,8 @@
-use crate::{Kind, Node, NodeRows, NodeSet, Tree, TreeFault};
+//! Tables of rows and target texts, with the answers that the rules give.
+
+ghost use Rattle.std.specs.Prelude.{◌<◌, ◌^◌, IfOk, length};
+
+use crate::{Kind, Node, NodeRows, NodeSet, Outline, OutlineFault, Tree, TreeFault};
 use std::alloc::Global;
 use std::process::Abort;
 use std::test::Fail;
@@ -37,7 +41,18 @@ const NAMED: [Row<'static>; 7] = [
     (Some(1), ATOMIC, "q", "second"),
 ];
 
-fn built(rt: &impl Abort, alloc: Global, table: &[Row]) -> Result<Result<Tree, TreeFault>, Fail> {
+/// A machine in the making: the history node 3 has no default yet, and the id `x` stands twice.
+const OPEN: [Row<'static>; 5] = [
+    (None, Kind::Compound { initial: 1 }, "", "m"),
+    (Some(0), Kind::Compound { initial: 2 }, "a", "x"),
+    (Some(1), ATOMIC, "b", "m.a.b"),
+    (Some(1), DEEP, "h", "m.a.h"),
+    (Some(0), ATOMIC, "c", "x"),
+];
+
+fn rows_of(rt: &impl Abort, alloc: Global, table: &[Row]) -> Result<NodeRows, Fail>
+    ensures { IfOk result (λ rows. (0 < length rows) × (length rows < 2 ^ 32)) }
+{
     let mut rows: NodeRows = Items::new(alloc);
     for (parent, kind, key, id) in table {
         let node = Node {
@@ -49,7 +64,11 @@ fn built(rt: &impl Abort, alloc: Global, table: &[Row]) -> Result<Result<Tree, T
         rows.push(node).map_err(|_| "out of memory")?;
     }
     assert!(rt; rows.len() > 0 && rows.len() < 4_294_967_296);
-    Ok(Tree::build(alloc, rows))
+    Ok(rows)
+}
+
+fn built(rt: &impl Abort, alloc: Global, table: &[Row]) -> Result<Result<Tree, TreeFault>, Fail> {
+    Ok(Tree::build(alloc, rows_of(rt, alloc, table)?))
 }
 
 #[test]
@@ -186,6 +205,39 @@ fn looks_nodes_up(rt: HostRuntime) -> Result<(), Fail> {
     ] {
         assert_eq!(rt; nested.below(low, high), want, "{low} {high}");
     }
+    Ok(())
+}
+
+#[test]
+fn an_outline_becomes_a_tree(rt: HostRuntime) -> Result<(), Fail> {
+    let alloc = rt.alloc();
+    let mut outline = Outline::build(alloc, rows_of(&rt, alloc, &OPEN)?)?;
+    assert!(rt; outline.len() == 5);
+    // The first node with an id is the one, and the first row that repeats an id is named.
+    assert_eq!(rt; outline.by_id(b"x"), Some(1));
+    assert_eq!(rt; outline.resolve(4, b"#x.b"), Some(2));
+    assert_eq!(rt; outline.first_repeated(), Some(4));
+    assert!(rt; outline.node(3).kind.is_history());
+    outline.set_default(3, 2);
+    assert_eq!(rt; outline.node(3).kind, Kind::Deep { default: Some(2) });
+    let mut nested = Outline::build(alloc, rows_of(&rt, alloc, &NESTED)?)?;
+    assert!(rt; nested.len() == 8 && nested.node(5).kind.is_history());
+    nested.set_default(5, 2);
+    assert_eq!(rt; nested.first_repeated(), None);
+    let tree = nested.into_tree();
+    assert!(rt; tree.len() == 8);
+    assert_eq!(rt; tree.node(5).kind, Kind::Shallow { default: Some(2) });
+    let misplaced = rows_of(
+        &rt,
+        alloc,
+        &[(None, ATOMIC, "", "r"), (None, ATOMIC, "", "s")],
+    )?;
+    assert!(rt;
+        matches!(
+            Outline::build(alloc, misplaced),
+            Err(OutlineFault::NoNode(1))
+        )
+    );
     Ok(())
 }
 

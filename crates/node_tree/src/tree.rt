@@ -1,25 +1,20 @@
-ghost use Rattle.std.specs.Prelude.{◌≡◌, ◌↔◌, ◌<◌, ◌^◌, ℕ, IfOk, IfSome, OnOk, IsTrue, slice_get, length};
-ghost use Rattle.node_tree.specs.Nodes.{AreRows, IsBelow, IsFirstMisplaced, IsFirstRepeated, IsTree, child_of, id_at, parent_of};
+//! The tree of a machine's nodes.
 
-use crate::ends::subtree_ends;
+ghost use Rattle.std.specs.Prelude.{◌≡◌, ◌↔◌, ◌<◌, ◌^◌, ℕ, IfOk, IfSome, OnOk, IsTrue, slice_get, length};
+ghost use Rattle.node_tree.specs.Nodes.{AreRows, HaveNewIds, IsBelow, IsFirstMisplaced, IsFirstRepeated, IsTree, child_of, id_at, parent_of};
+ghost use Rattle.node_tree.specs.Targets.{target_of};
+
 use crate::fault::TreeFault;
-use crate::names::{Names, index_children, index_ids};
 use crate::node::{Node, NodeRows};
-use crate::order::first_misplaced;
+use crate::outline::Outline;
 use std::alloc::Global;
 use std::marker::Model;
 
-/// The nodes of a machine. Contracts see the list of them in document order, in which a node's number
-/// is its place, counted from 0.
+/// The nodes of a machine: an outline in which each id stands once. Contracts see the list of the nodes
+/// in document order, in which a node's number is its place, counted from 0.
 #[derive(Debug, Drop)]
 pub struct Tree {
-    nodes: Vec<Node>,
-    /// For each node the number after the last node below it.
-    ends: Vec<u32>,
-    /// The nodes by their ids.
-    ids: Names,
-    /// For each node its children by their keys.
-    children: Vec<Names>,
+    outline: Outline,
 }
 
 impl Model for Tree {
@@ -28,11 +23,22 @@ impl Model for Tree {
 
     ghost Value = { List Node };
 
-    ghost use Rattle.node_tree.specs.Tables.{AreTables};
+    ghost use Rattle.node_tree.specs.Nodes.{IsTree};
 
-    ghost view = { λ tree. tree.nodes.items };
+    ghost view = { λ tree. tree.outline };
 
-    ghost invariant = { λ tree. AreTables tree.nodes.items tree.ends.items tree.ids tree.children.items };
+    ghost invariant = { λ tree. IsTree tree.outline };
+}
+
+impl Outline {
+    /// The tree of these rows. It takes no memory.
+    pub fn into_tree(self) -> Tree
+        requires { HaveNewIds self }
+        ensures { result ≡ self }
+    {
+        let _nodes = self.len();
+        Tree { outline: self }
+    }
 }
 
 impl Tree {
@@ -46,23 +52,16 @@ impl Tree {
         ensures ok { OnOk result (IsTree rows) }
 
         // Otherwise the first misplaced row, and only where there is none the first repeated id.
-        ensures no_node { (n : ℕ) → (result ≡ Err (TreeFault.NoNode n)) ↔ IsFirstMisplaced rows n }
+        ensures no_node { (n : ℕ) →
+            (result ≡ Err (TreeFault.NoNode n)) ↔ IsFirstMisplaced rows n }
         ensures rows_first { (n : ℕ) → result ≡ Err (TreeFault.DoubleId n) → AreRows rows }
         ensures double_id { (n : ℕ) → result ≡ Err (TreeFault.DoubleId n) → IsFirstRepeated rows n }
     {
-        let nodes = rows.into_vec();
-        if let Some(n) = first_misplaced(&nodes) {
-            return Err(TreeFault::NoNode(n));
+        let outline = Outline::build(alloc, rows)?;
+        match outline.first_repeated() {
+            Some(n) => Err(TreeFault::DoubleId(n)),
+            None => Ok(outline.into_tree()),
         }
-        let ids = index_ids(alloc, &nodes)?;
-        let ends = subtree_ends(alloc, &nodes)?;
-        let children = index_children(alloc, &nodes)?;
-        Ok(Tree {
-            nodes,
-            ends,
-            ids,
-            children,
-        })
     }
 
     /// How many nodes there are. The clause `tree` says what is known of the nodes of every tree.
@@ -70,7 +69,7 @@ impl Tree {
         ensures count { result ≡ length self.now }
         ensures tree { IsTree self.now }
     {
-        self.nodes.len() as u32
+        self.outline.len()
     }
 
     /// The node of a number.
@@ -78,16 +77,16 @@ impl Tree {
         requires { n < length self.now }
         ensures { slice_get self.now n ≡ Some result.now }
     {
-        &self.nodes[n as usize]
+        self.outline.node(n)
     }
 
     /// The parent of a node, where it has one.
-    pub(crate) fn parent(&self, n: u32) -> Option<u32>
+    pub fn parent(&self, n: u32) -> Option<u32>
         requires { n < length self.now }
         ensures parent { result ≡ parent_of self.now n }
         ensures first { IfSome result (λ parent. parent < n) }
     {
-        self.nodes[n as usize].parent
+        self.outline.parent(n)
     }
 
     /// Whether `low` is a proper descendant of `high`. It costs two comparisons.
@@ -96,7 +95,7 @@ impl Tree {
         requires high { high < length self.now }
         ensures { IsTrue result ↔ IsBelow self.now low high }
     {
-        high < low && low < self.ends[high as usize]
+        self.outline.below(low, high)
     }
 
     /// The first child of a node with this key. It costs a look-up in an ordered map.
@@ -105,7 +104,7 @@ impl Tree {
         ensures child { result ≡ child_of self.now n key.now }
         ensures inside { IfSome result (λ child. child < length self.now) }
     {
-        self.children[n as usize].get(key).copied()
+        self.outline.child(n, key)
     }
 
     /// The node with this id. It costs a look-up in an ordered map.
@@ -113,6 +112,15 @@ impl Tree {
         ensures node { result ≡ id_at self.now id.now }
         ensures inside { IfSome result (λ node. node < length self.now) }
     {
-        self.ids.get(id).copied()
+        self.outline.by_id(id)
+    }
+
+    /// The node that a target text leads to from a source, as [`Outline::resolve`] finds it.
+    pub fn resolve(&self, source: u32, target: &[u8]) -> Option<u32>
+        requires { source < length self.now }
+        ensures target { result ≡ target_of self.now source target.now }
+        ensures inside { IfSome result (λ target. target < length self.now) }
+    {
+        self.outline.resolve(source, target)
     }
 }

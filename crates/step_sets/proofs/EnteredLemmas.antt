@@ -8,7 +8,7 @@ use Rattle.step_sets.specs.declared.types.Domain.TheVariants.{Node, Whole}
 use Rattle.step_sets.specs.Configuration.{HasAllRegions, HasOneChild}
 use Rattle.step_sets.specs.Domains.{IsUnder}
 use Rattle.step_sets.specs.Entries.{HasGoalBelow, IsEntered, LeadsToGoal, Opens, towards_goal, region, initial, root, as_domain, as_entered}
-use Rattle.step_sets.specs.Kinds.{kind_of, IsHistory}
+use Rattle.node_tree.specs.Kinds.{kind_of, IsHistory}
 use Rattle.step_sets.specs.Statechart.{IsStatechart}
 use Rattle.step_sets.proofs.EntryLemmas.{under_inside}
 use Rattle.step_sets.proofs.GoalLemmas.{AreCoherent, parent_not_history}
@@ -31,7 +31,7 @@ module _ (nodes : List NodeRow) (tree : IsTree nodes) (chart : IsStatechart node
 
   module _ (goals : List ℕ) (domain : Domain) where
     pub entered_under : (n : ℕ) → IsEntered nodes goals domain n → IsUnder nodes domain n
-    entered_under n (root whole) = rw whole tree.some
+    entered_under n (root whole) = rw whole tree.outline.some
     entered_under n (towards_goal can leads) = can.0
     entered_under n (region can c parallel opens) = can.0
     entered_under n (initial can c compound off opens) = can.0

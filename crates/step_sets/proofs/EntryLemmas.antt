@@ -38,7 +38,7 @@ module _ (nodes : List NodeRow) (goals : List ℕ) (domain : Domain) where
 
   module _ (tree : IsTree nodes) (are_goals above opened : List Bool) where
     pub from_marks : (n : ℕ) → n < length nodes → AreMarks (Contains goals) (length nodes) are_goals → AreMarks (HasGoalBelow nodes goals) (length nodes) above → AreMarks (IsOpenSoFar n) (length nodes) opened
-        → IsEnteredByMarks nodes domain are_goals above opened n → IsEntered nodes goals domain n
+        → IsEnteredByMarks nodes domain (record { are_goals = are_goals; above_goals = above; opened = opened }) n → IsEntered nodes goals domain n
     from_marks n inside of_goals of_above of_opened (inl (e, whole)) = rw e (root whole)
     from_marks n inside of_goals of_above of_opened (inr (can, inl leads)) =
         towards_goal can ((leads_cases nodes goals n).1 (elim leads [ inl g ↦ inl ((of_goals.tells n inside).0 g) | inr a ↦ inr ((of_above.tells n inside).0 a) ]))
@@ -52,7 +52,7 @@ module _ (nodes : List NodeRow) (goals : List ℕ) (domain : Domain) where
         ]
 
     pub to_marks : (n : ℕ) → n < length nodes → AreMarks (Contains goals) (length nodes) are_goals → AreMarks (HasGoalBelow nodes goals) (length nodes) above → AreMarks (IsOpenSoFar n) (length nodes) opened
-        → IsEntered nodes goals domain n → IsEnteredByMarks nodes domain are_goals above opened n
+        → IsEntered nodes goals domain n → IsEnteredByMarks nodes domain (record { are_goals = are_goals; above_goals = above; opened = opened }) n
     to_marks n inside of_goals of_above of_opened (root whole) = inl (refl, whole)
     to_marks n inside of_goals of_above of_opened (towards_goal can leads) =
         inr (can, inl (elim ((leads_cases nodes goals n).0 leads) [ inl g ↦ inl ((of_goals.tells n inside).1 g) | inr a ↦ inr ((of_above.tells n inside).1 a) ]))
@@ -103,7 +103,7 @@ module _ (nodes : List NodeRow) (goals : List ℕ) (domain : Domain) where
 
   -- each entered node is one of the tree
   pub entered_inside : IsTree nodes → (n : ℕ) → IsEntered nodes goals domain n → n < length nodes
-  entered_inside tree n (root whole) = tree.some
+  entered_inside tree n (root whole) = tree.outline.some
   entered_inside tree n (towards_goal can leads) = under_inside nodes domain n can.0
   entered_inside tree n (region can c parallel opens) = under_inside nodes domain n can.0
   entered_inside tree n (initial can c compound off opens) = under_inside nodes domain n can.0

@@ -9,9 +9,9 @@ use Rattle.node_tree.specs.declared.node.Node.{Node}
 use Rattle.node_tree.specs.Nodes.{IsTree, IsBelow, IsChild, IsWithin, child, further, parent_of}
 use Rattle.step_sets.specs.Configuration.{IsLegal}
 use Rattle.step_sets.specs.Goals.{History, record_of, recorded_or, goals_at, goals_of}
-use Rattle.step_sets.specs.History.{CanBeRemembered}
-use Rattle.step_sets.specs.Kinds.{kind_of, IsHistory, IsHistoryKind}
+use Rattle.node_tree.specs.Kinds.{kind_of, IsHistory, IsHistoryKind}
 use Rattle.step_sets.specs.Statechart.{AreOrthogonal, CountsFor, DoNotClash, HasDefault, IsFitHistory, IsFitRecord, IsParentKind, IsStatechart}
+use Rattle.step_sets.proofs.RememberedLemmas.{remembered_below}
 use Rattle.step_sets.proofs.ListLemmas.{Contains-flat_map, Contains-cons_cases}
 use Rattle.step_sets.proofs.TreeLemmas.{below_trans, below_within, child_towards, comparable, history_inside, one_parent, path_child_unique, within_parent, within_trans}
 
@@ -104,20 +104,11 @@ module _ (nodes : List Node) (tree : IsTree nodes) (chart : IsStatechart nodes) 
     together = λ g h m n c initial has-g has-h of cm cn gm hn. absurd (let (k, h', e) = has-g in omega arith);
   }
 
-  remembered_within : (kind : Kind) (parent g : ℕ) → CanBeRemembered nodes kind parent g → IsWithin nodes g parent
-  remembered_within (Shallow default) parent g c = inr (child g parent c)
-  remembered_within (Deep default) parent g (b, leaf) = inr b
-  remembered_within Atomic parent g h = absurd h
-  remembered_within (Compound initial) parent g h = absurd h
-  remembered_within Parallel parent g h = absurd h
-  remembered_within Final parent g h = absurd h
-
   -- a record of a history node leads below the node's parent
   record_leads : (h top : ℕ) (list : List ℕ) → IsChild nodes h top → IsFitRecord nodes h list → LeadsOneWay nodes list top
-  record_leads h top list c (kind, of, history, parent, cp, active, legal, has, set) =
-      members_goals list top legal
-      (λ g has-g. let r = (set.exact g).0 has-g in
-      (r.0, (let P : ℕ → Type 0 = λ x. IsWithin nodes g x in subst P (one_parent nodes h parent top cp c) (remembered_within kind parent g r.1))))
+  record_leads h top list c fit =
+      members_goals list top fit.legal
+      (λ g has-g. let r = (fit.remembered.exact g).0 has-g in (r.0, inr (remembered_below nodes h top c g r.1)))
 
   -- with nothing recorded a history node leads to its default or its parent
   default_leads : (h top : ℕ) (kind : Kind) (default : Option ℕ) → kind_of nodes h ≡ Some kind → ((d : ℕ) → default ≡ Some d → HasDefault kind d) → IsChild nodes h top
@@ -178,7 +169,7 @@ module _ (nodes : List Node) (tree : IsTree nodes) (chart : IsStatechart nodes) 
       has_parent : (t : ℕ) → IsHistory nodes t → (p : ℕ) × IsChild nodes t p
       has_parent zero history = absurd (chart.root history)
       has_parent (suc before) history =
-          let placed = (tree.rows (suc before) (history_inside nodes (suc before) history)).placed in
+          let placed = (tree.outline.rows (suc before) (history_inside nodes (suc before) history)).placed in
           (placed.0, placed.1)
 
   -- goals in two regions do not part at a compound node

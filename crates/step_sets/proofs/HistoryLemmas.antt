@@ -12,8 +12,8 @@ use Rattle.node_tree.specs.declared.node.Kind.{Kind}
 use Rattle.node_tree.specs.declared.node.Node.{Node}
 use Rattle.node_tree.specs.Nodes.{AreNodes}
 use Rattle.step_sets.specs.Goals.{History, record_of}
-use Rattle.step_sets.specs.History.{IsNewRecord, IsPlaceIn, NamesNodes, RecordsHistory, record_at, history_nodes}
-use Rattle.step_sets.specs.Kinds.{kind_of}
+use Rattle.step_sets.specs.History.{Departure, IsNewRecord, IsPlaceIn, RecordsNodes, RecordsHistory, record_at, history_nodes}
+use Rattle.node_tree.specs.Kinds.{kind_of}
 use Rattle.step_sets.proofs.TreeLemmas.{child_inside}
 use Rattle.step_sets.proofs.SetLemmas.{IsStrictlyIncreasing-push}
 
@@ -59,18 +59,18 @@ pub record ArePlacesFrom (end : ℕ) (history : History) (i : ℕ) (places : Lis
   pub tell : (n : ℕ) → n < end → record_of (drop i history) n ≡ record_at history (get_or places n None)
 
 -- the records of the nodes before i are the new ones, in order
-pub record AreRecorded (nodes : List Node) (active exits : List ℕ) (old : History) (i : ℕ) (records : History) : Type 0 where
+pub record AreRecorded (nodes : List Node) (departure : Departure) (i : ℕ) (records : History) : Type 0 where
   pub in_order : IsStrictlyIncreasing (history_nodes records)
   pub below : All (λ (r : Record). r.0 < i) records
-  pub named : NamesNodes nodes records
-  pub each : (h : ℕ) → h < i → IsNewRecord nodes active exits old h (record_of records h)
+  pub named : RecordsNodes nodes records
+  pub each : (h : ℕ) → h < i → IsNewRecord nodes departure h (record_of records h)
 
-module _ (nodes : List Node) (active exits : List ℕ) (old : History) where
+module _ (nodes : List Node) (departure : Departure) where
   later : (i : ℕ) (records : History) → All (λ (r : Record). r.0 < i) records → All (λ (r : Record). r.0 < i + 1) records
   later i records below = All-weaker (λ (r : Record). r.0 < i) (λ (r : Record). r.0 < i + 1) (λ r h. omega arith) records below
 
   -- the next node has a record
-  pub AreRecorded-push : (i : ℕ) (record' : List ℕ) (records : History) → i < length nodes → AreNodes nodes record' → IsNewRecord nodes active exits old i (Some record') → AreRecorded nodes active exits old i records → AreRecorded nodes active exits old (i + 1) (records ++ (i, record') ∷ [])
+  pub AreRecorded-push : (i : ℕ) (record' : List ℕ) (records : History) → i < length nodes → AreNodes nodes record' → IsNewRecord nodes departure i (Some record') → AreRecorded nodes departure i records → AreRecorded nodes departure (i + 1) (records ++ (i, record') ∷ [])
   AreRecorded-push i record' records inside of-tree new were = record {
     in_order = rw (map_push (λ (r : Record). r.0) records (i, record'))
         (IsStrictlyIncreasing-push (history_nodes records) i were.in_order
@@ -85,7 +85,7 @@ module _ (nodes : List Node) (active exits : List ℕ) (old : History) where
   }
 
   -- the next node has none
-  pub AreRecorded-skip : (i : ℕ) (records : History) → IsNewRecord nodes active exits old i None → AreRecorded nodes active exits old i records → AreRecorded nodes active exits old (i + 1) records
+  pub AreRecorded-skip : (i : ℕ) (records : History) → IsNewRecord nodes departure i None → AreRecorded nodes departure i records → AreRecorded nodes departure (i + 1) records
   AreRecorded-skip i records new were = record {
     in_order = were.in_order;
     below = later i records were.below;
@@ -98,13 +98,13 @@ module _ (nodes : List Node) (active exits : List ℕ) (old : History) where
   }
 
   -- past the tree nothing is recorded
-  past_tree : (h : ℕ) → length nodes ≤ h → NamesNodes nodes old → IsNewRecord nodes active exits old h None
+  past_tree : (h : ℕ) → length nodes ≤ h → RecordsNodes nodes departure.recorded → IsNewRecord nodes departure h None
   past_tree h past names = record {
-    recorded = λ kind parent is history c left. absurd (let inside = child_inside nodes h parent c in omega arith);
-    kept = λ _. sym (record_of-none old (length nodes) h (All-weaker (λ (r : Record). (r.0 < length nodes) × AreNodes nodes r.1) (λ (r : Record). r.0 < length nodes) (λ r p. p.0) old names) past);
+    recorded = λ (history, parent, c, left). absurd (let inside = child_inside nodes h parent c in omega arith);
+    kept = λ _. sym (record_of-none departure.recorded (length nodes) h (All-weaker (λ (r : Record). (r.0 < length nodes) × AreNodes nodes r.1) (λ (r : Record). r.0 < length nodes) (λ r p. p.0) departure.recorded names) past);
   }
 
-  pub AreRecorded-all : (i : ℕ) (records : History) → length nodes ≡ i → NamesNodes nodes old → AreRecorded nodes active exits old i records → RecordsHistory nodes active exits old records
+  pub AreRecorded-all : (i : ℕ) (records : History) → length nodes ≡ i → RecordsNodes nodes departure.recorded → AreRecorded nodes departure i records → RecordsHistory nodes departure records
   AreRecorded-all i records all names were = record {
     in_order = were.in_order;
     each = λ h. elim (cases_lt h i) [
@@ -113,14 +113,8 @@ module _ (nodes : List Node) (active exits : List ℕ) (old : History) where
     ];
   }
 
--- the kind that a row names
-pub kind_read : (nodes : List Node) (n : ℕ) (node : Node) (kind : Kind) → slice_get nodes n ≡ Some node → kind_of nodes n ≡ Some kind → node.kind ≡ kind
-kind_read nodes n node kind is of =
-    let at : option_map (λ (row : Node). row.kind) (Some node) ≡ Some kind = rw is at of in
-    cc
-
 -- a record of a history that names nodes of the tree does so
-pub record_of-named : (nodes : List Node) (rs : History) (h : ℕ) (list : List ℕ) → NamesNodes nodes rs → record_of rs h ≡ Some list → AreNodes nodes list
+pub record_of-named : (nodes : List Node) (rs : History) (h : ℕ) (list : List ℕ) → RecordsNodes nodes rs → record_of rs h ≡ Some list → AreNodes nodes list
 record_of-named nodes [] h list named is = absurd cc
 record_of-named nodes (r ∷ rest) h list named is =
     elim (cases_eq r.0 h) [

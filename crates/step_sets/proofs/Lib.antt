@@ -7,6 +7,8 @@ pub mod ListLemmas
 pub mod MarkLemmas
 pub mod NextLemmas
 pub mod PreemptionLemmas
+pub mod RememberedLemmas
+pub mod RunLemmas
 pub mod SetLemmas
 pub mod TargetLemmas
 pub mod TreeLemmas

@@ -10,12 +10,12 @@ use Rattle.node_tree.specs.Nodes.{IsTree, IsChild, child}
 use Rattle.step_sets.specs.declared.types.Domain.{Domain}
 use Rattle.step_sets.specs.declared.types.Domain.TheVariants.{Node, Whole}
 use Rattle.step_sets.specs.Configuration.{HasAllRegions, HasOneChild, IsLegal}
-use Rattle.step_sets.specs.Domains.{IsDomain, IsUnder, internal, innermost, none, outermost_of}
+use Rattle.step_sets.specs.Domains.{Arrow, IsDomain, IsUnder, internal, innermost, none, outermost_of}
 use Rattle.step_sets.specs.Entries.{IsEntered, Opens, root, as_domain, as_entered}
 use Rattle.step_sets.specs.Exits.{IsExited}
 use Rattle.step_sets.specs.Goals.{History, goals_of}
-use Rattle.step_sets.specs.Kinds.{kind_of, IsHistory}
-use Rattle.step_sets.specs.Laws.{IsEnabled, IsNext, LeaveApart, Move}
+use Rattle.node_tree.specs.Kinds.{kind_of, IsHistory}
+use Rattle.step_sets.specs.Laws.{IsEnabled, IsNextConfiguration, LeaveApart, TakenTransition}
 use Rattle.step_sets.specs.Statechart.{IsFitHistory, IsParentKind, IsStatechart}
 use Rattle.step_sets.proofs.EnteredLemmas.{entered_inside, entered_not_history, entered_under, enters_one, enters_regions, parent_opens, under_domain, under_down, under_up}
 use Rattle.step_sets.proofs.EntryLemmas.{under_inside}
@@ -53,13 +53,13 @@ module _ (nodes : List NodeRow) (tree : IsTree nodes) (chart : IsStatechart node
   outermost_active false d e = let same : 0 ≡ d = cc in let P : ℕ → Type 0 = λ x. Contains active x in subst P same legal.root
 
   -- the domain of an enabled transition is active, if it is a node
-  domain_active : (source : ℕ) (targets : List ℕ) (reenter : Bool) (domain : Domain) → Contains active source → IsDomain nodes source targets reenter domain → (d : ℕ) → domain ≡ Node d → Contains active d
-  domain_active source targets reenter domain has (internal i) d e =
-      let same : source ≡ d = cc in let P : ℕ → Type 0 = λ x. Contains active x in subst P same has
-  domain_active source targets reenter domain has (innermost {a} external inner) d e =
+  domain_active : (arrow : Arrow) (domain : Domain) → Contains active arrow.source → IsDomain nodes arrow domain → (d : ℕ) → domain ≡ Node d → Contains active d
+  domain_active arrow domain has (internal i) d e =
+      let same : arrow.source ≡ d = cc in let P : ℕ → Type 0 = λ x. Contains active x in subst P same has
+  domain_active arrow domain has (innermost {a} external inner) d e =
       let same : a ≡ d = cc in
-      let P : ℕ → Type 0 = λ x. Contains active x in subst P same (above_member nodes tree chart legal source a has inner.0.0)
-  domain_active source targets reenter domain has (none external no-ancestor) d e = outermost_active reenter d e
+      let P : ℕ → Type 0 = λ x. Contains active x in subst P same (above_member nodes tree chart legal arrow.source a has inner.0.0)
+  domain_active arrow domain has (none external no-ancestor) d e = outermost_active arrow.reenter d e
 
   -- an active node with a child has an active child
   active_child_by : (p : ℕ) (kind : Kind) → kind_of nodes p ≡ Some kind → IsParentKind kind → Contains active p → (n : ℕ) × IsChild nodes n p × Contains active n
@@ -79,7 +79,7 @@ module _ (nodes : List NodeRow) (tree : IsTree nodes) (chart : IsStatechart node
       let (m, c, w) = child_towards nodes n d below in
       let (x, cx, has) = active_child m d c (at d refl) in
       (x, (has, child x d cx))
-  exits_something_by Whole n at inside = (0, (legal.root, tree.some))
+  exits_something_by Whole n at inside = (0, (legal.root, tree.outline.some))
 
   -- of two domains above one node, the one leaves what the other leaves
   nested : (a b : Domain) (n : ℕ) → IsUnder nodes a n → IsUnder nodes b n
@@ -92,29 +92,29 @@ module _ (nodes : List NodeRow) (tree : IsTree nodes) (chart : IsStatechart node
         | inr b ↦ inr (λ x below. below_trans nodes x e d below b)
       ]
 
-  module _ (history : History) (moves : List Move) (fit : IsFitHistory nodes history) (enabled : All (IsEnabled nodes active) moves) (apart : AllPairs (LeaveApart nodes active) moves) where
+  module _ (history : History) (transitions : List TakenTransition) (fit : IsFitHistory nodes history) (enabled : All (IsEnabled nodes active) transitions) (apart : AllPairs (LeaveApart nodes active) transitions) where
     -- what a transition enters
-    abbrev Enters : Move → ℕ → Type 0
-    Enters move n = IsEntered nodes (goals_of nodes history move.targets) move.domain n
+    abbrev Enters : TakenTransition → ℕ → Type 0
+    Enters taken n = IsEntered nodes (goals_of nodes history taken.arrow.targets) taken.domain n
 
-    enabled_move : (move : Move) → Contains moves move → IsEnabled nodes active move
-    enabled_move move has = All-contains (IsEnabled nodes active) moves move enabled has
+    enabled_move : (taken : TakenTransition) → Contains transitions taken → IsEnabled nodes active taken
+    enabled_move taken has = All-contains (IsEnabled nodes active) transitions taken enabled has
 
-    coherent : (move : Move) → Contains moves move → AreCoherent nodes tree chart (goals_of nodes history move.targets)
-    coherent move has = goals_coherent nodes tree chart history move.targets fit (enabled_move move has).targets
+    coherent : (taken : TakenTransition) → Contains transitions taken → AreCoherent nodes tree chart (goals_of nodes history taken.arrow.targets)
+    coherent taken has = goals_coherent nodes tree chart history taken.arrow.targets fit (enabled_move taken has).targets
 
-    move_domain_active : (move : Move) → Contains moves move → (d : ℕ) → move.domain ≡ Node d → Contains active d
-    move_domain_active move has d e =
-        let on = enabled_move move has in
-        domain_active move.source move.targets move.reenter move.domain on.source on.domain d e
+    move_domain_active : (taken : TakenTransition) → Contains transitions taken → (d : ℕ) → taken.domain ≡ Node d → Contains active d
+    move_domain_active taken has d e =
+        let on = enabled_move taken has in
+        domain_active taken.arrow taken.domain on.source on.domain d e
 
-    exits_something : (move : Move) (n : ℕ) → Contains moves move → IsUnder nodes move.domain n → (x : ℕ) × IsExited nodes active move.domain x
-    exits_something move n has under = exits_something_by move.domain n (λ d e. move_domain_active move has d e) under
+    exits_something : (taken : TakenTransition) (n : ℕ) → Contains transitions taken → IsUnder nodes taken.domain n → (x : ℕ) × IsExited nodes active taken.domain x
+    exits_something taken n has under = exits_something_by taken.domain n (λ d e. move_domain_active taken has d e) under
 
     -- two transitions with a node below both domains are one
-    one_move : (a b : Move) (n : ℕ) → Contains moves a → Contains moves b → IsUnder nodes a.domain n → IsUnder nodes b.domain n → a ≡ b
+    one_move : (a b : TakenTransition) (n : ℕ) → Contains transitions a → Contains transitions b → IsUnder nodes a.domain n → IsUnder nodes b.domain n → a ≡ b
     one_move a b n has-a has-b under-a under-b =
-        elim (same_or_related (LeaveApart nodes active) moves a b apart has-a has-b) [
+        elim (same_or_related (LeaveApart nodes active) transitions a b apart has-a has-b) [
           | inl e ↦ e
           | inr related ↦ absurd (elim (nested a.domain b.domain n under-a under-b) [
             | inl into ↦ (let (x, (has, under)) = exits_something a n has-a under-a in
@@ -126,66 +126,66 @@ module _ (nodes : List NodeRow) (tree : IsTree nodes) (chart : IsStatechart node
 
     -- an active node that no transition leaves
     abbrev Stays : ℕ → Type 0
-    Stays n = Contains active n × ((move : Move) → Contains moves move → ¬ IsExited nodes active move.domain n)
+    Stays n = Contains active n × ((taken : TakenTransition) → Contains transitions taken → ¬ IsExited nodes active taken.domain n)
 
     -- a member of the next configuration
     abbrev Next : ℕ → Type 0
-    Next n = IsNext nodes active history moves n
+    Next n = IsNextConfiguration nodes (record { active = active; history = history; transitions = transitions }) n
 
     -- an active node whose parent stays is left only if the parent is the domain
-    kept_child : (n p : ℕ) → IsChild nodes n p → Stays p → ((move : Move) → Contains moves move → ¬ (move.domain ≡ Node p)) → Contains active n → Stays n
+    kept_child : (n p : ℕ) → IsChild nodes n p → Stays p → ((taken : TakenTransition) → Contains transitions taken → ¬ (taken.domain ≡ Node p)) → Contains active n → Stays n
     kept_child n p c (active-p, keeps) no-domain active-n = (
       active-n,
-      (λ move has (a, under).
-          elim (under_up nodes tree chart move.domain n p under c) [
-            | inl is ↦ no-domain move has is
-            | inr up ↦ keeps move has (active-p, up)
+      (λ taken has (a, under).
+          elim (under_up nodes tree chart taken.domain n p under c) [
+            | inl is ↦ no-domain taken has is
+            | inr up ↦ keeps taken has (active-p, up)
           ]),
     )
 
     -- a child that is entered belongs to the transition of its parent
-    entered_with : (a b : Move) (n p : ℕ) → Contains moves a → Contains moves b → IsChild nodes n p → IsUnder nodes a.domain n → Enters b n → Enters a n
+    entered_with : (a b : TakenTransition) (n p : ℕ) → Contains transitions a → Contains transitions b → IsChild nodes n p → IsUnder nodes a.domain n → Enters b n → Enters a n
     entered_with a b n p has-a has-b c under e =
-        let same = one_move b a n has-b has-a (entered_under nodes tree chart (goals_of nodes history b.targets) b.domain n e) under in
-        let P : Move → Type 0 = λ m. Enters m n in
+        let same = one_move b a n has-b has-a (entered_under nodes tree chart (goals_of nodes history b.arrow.targets) b.domain n e) under in
+        let P : TakenTransition → Type 0 = λ m. Enters m n in
         subst P same e
 
     -- where a node opens for a transition, the members among its children are those that the transition enters
-    opened_child : (move : Move) (n p : ℕ) → Contains moves move → IsChild nodes n p → IsUnder nodes move.domain n → Next n → Enters move n
-    opened_child move n p has c under (inl (active-n, keeps)) = absurd (keeps move has (active-n, under))
-    opened_child move n p has c under (inr (other, has-other, e)) = entered_with move other n p has has-other c under e
+    opened_child : (taken : TakenTransition) (n p : ℕ) → Contains transitions taken → IsChild nodes n p → IsUnder nodes taken.domain n → Next n → Enters taken n
+    opened_child taken n p has c under (inl (active-n, keeps)) = absurd (keeps taken has (active-n, under))
+    opened_child taken n p has c under (inr (other, has-other, e)) = entered_with taken other n p has has-other c under e
 
-    opens_under : (move : Move) (n p : ℕ) → Opens nodes (goals_of nodes history move.targets) move.domain p → IsChild nodes n p → IsUnder nodes move.domain n
-    opens_under move n p (as_domain is) c = under_domain nodes tree chart move.domain n p is c
-    opens_under move n p (as_entered e) c =
-        under_down nodes tree chart move.domain n p (entered_under nodes tree chart (goals_of nodes history move.targets) move.domain p e) c
+    opens_under : (taken : TakenTransition) (n p : ℕ) → Opens nodes (goals_of nodes history taken.arrow.targets) taken.domain p → IsChild nodes n p → IsUnder nodes taken.domain n
+    opens_under taken n p (as_domain is) c = under_domain nodes tree chart taken.domain n p is c
+    opens_under taken n p (as_entered e) c =
+        under_down nodes tree chart taken.domain n p (entered_under nodes tree chart (goals_of nodes history taken.arrow.targets) taken.domain p e) c
 
-    one_where_open : (move : Move) (c start : ℕ) → Contains moves move → kind_of nodes c ≡ Some (Compound start) → Opens nodes (goals_of nodes history move.targets) move.domain c → HasOneChild nodes Next c
-    one_where_open move c start has of opens =
-        let (only, co, e, unique) = enters_one nodes tree chart (goals_of nodes history move.targets) move.domain (coherent move has) c start of opens in
-        (only, co, inr (move, has, e), (λ n cn next. unique n cn (opened_child move n c has cn (opens_under move n c opens cn) next)))
+    one_where_open : (taken : TakenTransition) (c start : ℕ) → Contains transitions taken → kind_of nodes c ≡ Some (Compound start) → Opens nodes (goals_of nodes history taken.arrow.targets) taken.domain c → HasOneChild nodes Next c
+    one_where_open taken c start has of opens =
+        let (only, co, e, unique) = enters_one nodes tree chart (goals_of nodes history taken.arrow.targets) taken.domain (coherent taken has) c start of opens in
+        (only, co, inr (taken, has, e), (λ n cn next. unique n cn (opened_child taken n c has cn (opens_under taken n c opens cn) next)))
 
-    all_where_open : (move : Move) (p : ℕ) → Contains moves move → kind_of nodes p ≡ Some Parallel → Opens nodes (goals_of nodes history move.targets) move.domain p → HasAllRegions nodes Next p
-    all_where_open move p has of opens = λ r c plain.
-        inr (move, has, enters_regions nodes tree chart (goals_of nodes history move.targets) move.domain p of opens r c plain)
+    all_where_open : (taken : TakenTransition) (p : ℕ) → Contains transitions taken → kind_of nodes p ≡ Some Parallel → Opens nodes (goals_of nodes history taken.arrow.targets) taken.domain p → HasAllRegions nodes Next p
+    all_where_open taken p has of opens = λ r c plain.
+        inr (taken, has, enters_regions nodes tree chart (goals_of nodes history taken.arrow.targets) taken.domain p of opens r c plain)
 
     -- whether a node is the domain of a transition
-    decide_domain_of : (c : ℕ) → ((move : Move) × Contains moves move × (move.domain ≡ Node c)) ⊎ ((move : Move) → Contains moves move → ¬ (move.domain ≡ Node c))
-    decide_domain_of c = decide_any (λ (move : Move). move.domain ≡ Node c) (λ move. decide_domain move.domain c) moves
+    decide_domain_of : (c : ℕ) → ((taken : TakenTransition) × Contains transitions taken × (taken.domain ≡ Node c)) ⊎ ((taken : TakenTransition) → Contains transitions taken → ¬ (taken.domain ≡ Node c))
+    decide_domain_of c = decide_any (λ (taken : TakenTransition). taken.domain ≡ Node c) (λ taken. decide_domain taken.domain c) transitions
 
     -- a child of a node that stays and is no domain is entered by no transition
-    not_entered : (n p : ℕ) → IsChild nodes n p → Stays p → ((move : Move) → Contains moves move → ¬ (move.domain ≡ Node p)) → (move : Move) → Contains moves move → ¬ Enters move n
-    not_entered n p c (active-p, keeps) no-domain move has e =
-        elim (under_up nodes tree chart move.domain n p (entered_under nodes tree chart (goals_of nodes history move.targets) move.domain n e) c) [
-          | inl is ↦ no-domain move has is
-          | inr up ↦ keeps move has (active-p, up)
+    not_entered : (n p : ℕ) → IsChild nodes n p → Stays p → ((taken : TakenTransition) → Contains transitions taken → ¬ (taken.domain ≡ Node p)) → (taken : TakenTransition) → Contains transitions taken → ¬ Enters taken n
+    not_entered n p c (active-p, keeps) no-domain taken has e =
+        elim (under_up nodes tree chart taken.domain n p (entered_under nodes tree chart (goals_of nodes history taken.arrow.targets) taken.domain n e) c) [
+          | inl is ↦ no-domain taken has is
+          | inr up ↦ keeps taken has (active-p, up)
         ]
 
     next_root : Next 0
     next_root =
-        elim (decide_any (λ (move : Move). move.domain ≡ Whole) (λ move. decide_whole move.domain) moves) [
-          | inl found ↦ (let (move, has, whole) = found in inr (move, has, root whole))
-          | inr none' ↦ inl (legal.root, (λ move has (a, under). not_under move.domain (none' move has) under))
+        elim (decide_any (λ (taken : TakenTransition). taken.domain ≡ Whole) (λ taken. decide_whole taken.domain) transitions) [
+          | inl found ↦ (let (taken, has, whole) = found in inr (taken, has, root whole))
+          | inr none' ↦ inl (legal.root, (λ taken has (a, under). not_under taken.domain (none' taken has) under))
         ]
       where
         not_under : (domain : Domain) → ¬ (domain ≡ Whole) → ¬ IsUnder nodes domain 0
@@ -193,13 +193,13 @@ module _ (nodes : List NodeRow) (tree : IsTree nodes) (chart : IsStatechart node
         not_under Whole other inside = other refl
 
     -- the domain of a transition that enters something stays
-    domain_stays : (move : Move) (n p : ℕ) → Contains moves move → Enters move n → IsChild nodes n p → move.domain ≡ Node p → Stays p
-    domain_stays move n p has e c is = (
-      move_domain_active move has p is,
+    domain_stays : (taken : TakenTransition) (n p : ℕ) → Contains transitions taken → Enters taken n → IsChild nodes n p → taken.domain ≡ Node p → Stays p
+    domain_stays taken n p has e c is = (
+      move_domain_active taken has p is,
       (λ other has-other (a, under).
-          let under-n = entered_under nodes tree chart (goals_of nodes history move.targets) move.domain n e in
-          let same = one_move other move n has-other has (under_down nodes tree chart other.domain n p under c) under-n in
-          let P : Move → Type 0 = λ m. IsUnder nodes m.domain p in
+          let under-n = entered_under nodes tree chart (goals_of nodes history taken.arrow.targets) taken.domain n e in
+          let same = one_move other taken n has-other has (under_down nodes tree chart other.domain n p under c) under-n in
+          let P : TakenTransition → Type 0 = λ m. IsUnder nodes m.domain p in
           let own = subst P same under in
           let Q : Domain → Type 0 = λ d. IsUnder nodes d p in
           below_itself nodes tree p (subst Q is own)),
@@ -207,19 +207,19 @@ module _ (nodes : List NodeRow) (tree : IsTree nodes) (chart : IsStatechart node
 
     next_parents : (n p : ℕ) → IsChild nodes n p → Next n → Next p
     next_parents n p c (inl (active-n, keeps)) =
-        inl (legal.parents n p c active-n, (λ move has (a, under). keeps move has (active-n, under_down nodes tree chart move.domain n p under c)))
-    next_parents n p c (inr (move, has, e)) =
-        by_opening (parent_opens nodes tree chart (goals_of nodes history move.targets) move.domain n p c e)
+        inl (legal.parents n p c active-n, (λ taken has (a, under). keeps taken has (active-n, under_down nodes tree chart taken.domain n p under c)))
+    next_parents n p c (inr (taken, has, e)) =
+        by_opening (parent_opens nodes tree chart (goals_of nodes history taken.arrow.targets) taken.domain n p c e)
       where
-        by_opening : Opens nodes (goals_of nodes history move.targets) move.domain p → Next p
-        by_opening (as_entered up) = inr (move, has, up)
-        by_opening (as_domain is) = inl (domain_stays move n p has e c is)
+        by_opening : Opens nodes (goals_of nodes history taken.arrow.targets) taken.domain p → Next p
+        by_opening (as_entered up) = inr (taken, has, up)
+        by_opening (as_domain is) = inl (domain_stays taken n p has e c is)
 
     next_one_child : (c start : ℕ) → kind_of nodes c ≡ Some (Compound start) → Next c → HasOneChild nodes Next c
-    next_one_child c start of (inr (move, has, e)) = one_where_open move c start has of (as_entered e)
+    next_one_child c start of (inr (taken, has, e)) = one_where_open taken c start has of (as_entered e)
     next_one_child c start of (inl stays) =
         elim (decide_domain_of c) [
-          | inl found ↦ (let (move, has, is) = found in one_where_open move c start has of (as_domain is))
+          | inl found ↦ (let (taken, has, is) = found in one_where_open taken c start has of (as_domain is))
           | inr no-domain ↦
               (let (only, co, o, unique) = legal.one_child c start of stays.0 in (
                 only,
@@ -233,22 +233,22 @@ module _ (nodes : List NodeRow) (tree : IsTree nodes) (chart : IsStatechart node
         ]
 
     next_all_regions : (p : ℕ) → kind_of nodes p ≡ Some Parallel → Next p → HasAllRegions nodes Next p
-    next_all_regions p of (inr (move, has, e)) = all_where_open move p has of (as_entered e)
+    next_all_regions p of (inr (taken, has, e)) = all_where_open taken p has of (as_entered e)
     next_all_regions p of (inl stays) =
         elim (decide_domain_of p) [
-          | inl found ↦ (let (move, has, is) = found in all_where_open move p has of (as_domain is))
+          | inl found ↦ (let (taken, has, is) = found in all_where_open taken p has of (as_domain is))
           | inr no-domain ↦ (λ r c plain. inl (kept_child r p c stays no-domain (legal.all_regions p of stays.0 r c plain)))
         ]
 
     next_of_tree : (n : ℕ) → Next n → n < length nodes
     next_of_tree n (inl stays) = legal.of_tree n stays.0
-    next_of_tree n (inr (move, has, e)) = entered_inside nodes tree chart (goals_of nodes history move.targets) move.domain n e
+    next_of_tree n (inr (taken, has, e)) = entered_inside nodes tree chart (goals_of nodes history taken.arrow.targets) taken.domain n e
 
     next_no_history : (n : ℕ) → Next n → ¬ IsHistory nodes n
     next_no_history n (inl stays) = legal.no_history n stays.0
-    next_no_history n (inr (move, has, e)) = entered_not_history nodes tree chart (goals_of nodes history move.targets) move.domain n e
+    next_no_history n (inr (taken, has, e)) = entered_not_history nodes tree chart (goals_of nodes history taken.arrow.targets) taken.domain n e
 
-    pub next_is_legal : IsLegal nodes (IsNext nodes active history moves)
+    pub next_is_legal : IsLegal nodes (IsNextConfiguration nodes (record { active = active; history = history; transitions = transitions }))
     next_is_legal = record {
       of_tree = next_of_tree;
       root = next_root;

@@ -7,12 +7,12 @@ use Rattle.node_tree.specs.declared.node.Kind.TheVariants.{Atomic, Compound, Par
 use Rattle.node_tree.specs.declared.node.Node.{Node}
 use Rattle.node_tree.specs.Nodes.{AreNodes, IsTree, parent_of}
 use Rattle.step_sets.specs.Goals.{History, goals_at, goals_of, record_of, recorded_or}
-use Rattle.step_sets.specs.History.{NamesNodes}
-use Rattle.step_sets.specs.Kinds.{kind_of}
+use Rattle.step_sets.specs.History.{RecordsNodes}
+use Rattle.node_tree.specs.Kinds.{kind_of}
 use Rattle.step_sets.proofs.HistoryLemmas.{record_of-named}
 use Rattle.step_sets.proofs.TreeLemmas.{kind_names, parent_inside}
 
-module _ (nodes : List Node) (tree : IsTree nodes) (history : History) (named : NamesNodes nodes history) where
+module _ (nodes : List Node) (tree : IsTree nodes) (history : History) (named : RecordsNodes nodes history) where
   one_inside : (n : ℕ) → n < length nodes → AreNodes nodes (n ∷ [])
   one_inside n inside = All-cons (λ n. n < length nodes) n [] inside (All-nil (λ n. n < length nodes))
 

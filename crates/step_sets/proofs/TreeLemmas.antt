@@ -3,7 +3,7 @@ use Rattle.std.proofs.Common.{◌≡◌, ◌<◌, ◌⊎◌, ℕ, zero, suc, Lis
 use Rattle.std.specs.Prelude.{slice_get}
 use Rattle.std.proofs.lemmas.Bool.{cases_eq}
 use Rattle.std.specs.Option.{IfSome, IsSomeAnd, option_and_then, option_map}
-use Rattle.step_sets.specs.Kinds.{IsHistory, IsHistoryKind, kind_of}
+use Rattle.node_tree.specs.Kinds.{IsHistory, IsHistoryKind, kind_of}
 use Rattle.std.proofs.lemmas.Option.{slice_get_within}
 use Rattle.node_tree.specs.declared.node.Kind.{Kind}
 use Rattle.node_tree.specs.declared.node.Kind.TheVariants.{Compound}
@@ -27,9 +27,9 @@ child_from nodes (suc before) p placed c rec =
 below_less_within : (nodes : List Node) → IsTree nodes → (fuel low high : ℕ) → low < fuel → IsBelow nodes low high → high < low
 below_less_within nodes tree zero low high h b = absurd (omega arith)
 below_less_within nodes tree (suc fuel) l0 h0 h (child low high c) =
-    child_from nodes low high (tree.rows low (child_inside nodes low high c)).placed c (λ l k less b. below_less_within nodes tree fuel l k (omega arith) b)
+    child_from nodes low high (tree.outline.rows low (child_inside nodes low high c)).placed c (λ l k less b. below_less_within nodes tree fuel l k (omega arith) b)
 below_less_within nodes tree (suc fuel) l0 h0 h (further low parent high c b) =
-    let first = child_from nodes low parent (tree.rows low (child_inside nodes low parent c)).placed c (λ l k less b'. below_less_within nodes tree fuel l k (omega arith) b') in
+    let first = child_from nodes low parent (tree.outline.rows low (child_inside nodes low parent c)).placed c (λ l k less b'. below_less_within nodes tree fuel l k (omega arith) b') in
     let rest = below_less_within nodes tree fuel parent high (omega arith) b in
     omega arith
 
@@ -189,7 +189,7 @@ kind_names nodes tree n kind of = by_row (slice_get nodes n) refl of
     by_row : (o : Option Node) → slice_get nodes n ≡ o → option_map (λ (row : Node). row.kind) o ≡ Some kind → NamesNodes nodes n kind
     by_row None is e = absurd cc
     by_row (Some node) is e =
-        let names : NamesNodes nodes n node.kind = rw is at (tree.rows n (slice_get_within nodes n node is)).names in
+        let names : NamesNodes nodes n node.kind = rw is at (tree.outline.rows n (slice_get_within nodes n node is)).names in
         let same : node.kind ≡ kind = cc in
         rw same at names
 

@@ -2,7 +2,7 @@
 use Rattle.std.specs.Prelude.{◌≡◌, ℕ, List, Some, Contains}
 use Rattle.node_tree.specs.declared.node.Kind.TheVariants.{Compound, Parallel}
 use Rattle.node_tree.specs.Nodes.{IsChild, IsWithin}
-use Rattle.step_sets.specs.Kinds.{Nodes, kind_of, IsHistory}
+use Rattle.node_tree.specs.Kinds.{Nodes, kind_of, IsHistory}
 use Rattle.step_sets.specs.Domains.{IsUnder}
 use Rattle.step_sets.specs.declared.types.Domain.{Domain}
 use Rattle.step_sets.specs.declared.types.Domain.TheVariants.{Node, Whole}
@@ -24,9 +24,14 @@ mutual
   -- and opens; its parent is compound and opens, no child of it leads to a goal, and the node is its
   -- initial child. For the whole tree the root is entered as well
   pub data IsEntered (nodes : Nodes) (goals : List ℕ) (domain : Domain) : ℕ → Type 0 where
-    towards_goal : {n : ℕ} → CanBeEntered nodes domain n → LeadsToGoal nodes goals n → IsEntered nodes goals domain n
-    region : {n p : ℕ} → CanBeEntered nodes domain n → IsChild nodes n p → kind_of nodes p ≡ Some Parallel → Opens nodes goals domain p → IsEntered nodes goals domain n
-    initial : {n p : ℕ} → CanBeEntered nodes domain n → IsChild nodes n p → kind_of nodes p ≡ Some (Compound n) → ¬ HasGoalBelow nodes goals p → Opens nodes goals domain p → IsEntered nodes goals domain n
+    towards_goal : {n : ℕ} → CanBeEntered nodes domain n → LeadsToGoal nodes goals n
+        → IsEntered nodes goals domain n
+    region : {n p : ℕ} → CanBeEntered nodes domain n → IsChild nodes n p
+        → kind_of nodes p ≡ Some Parallel → Opens nodes goals domain p
+        → IsEntered nodes goals domain n
+    initial : {n p : ℕ} → CanBeEntered nodes domain n → IsChild nodes n p
+        → kind_of nodes p ≡ Some (Compound n) → ¬ HasGoalBelow nodes goals p
+        → Opens nodes goals domain p → IsEntered nodes goals domain n
     root : domain ≡ Whole → IsEntered nodes goals domain 0
 
   -- a node opens if it is the domain or is entered

@@ -1,6 +1,6 @@
 -- The exit set of a transition, after SCXML's computeExitSet.
 use Rattle.std.specs.Prelude.{ℕ, List, Contains}
-use Rattle.step_sets.specs.Kinds.{Nodes}
+use Rattle.node_tree.specs.Kinds.{Nodes}
 use Rattle.step_sets.specs.Domains.{IsUnder}
 use Rattle.step_sets.specs.declared.types.Domain.{Domain}
 

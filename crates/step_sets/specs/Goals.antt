@@ -6,7 +6,7 @@ use Rattle.std.specs.Map.{lookup}
 use Rattle.node_tree.specs.declared.node.Kind.{Kind}
 use Rattle.node_tree.specs.declared.node.Kind.TheVariants.{Atomic, Compound, Parallel, Final, Shallow, Deep}
 use Rattle.node_tree.specs.Nodes.{parent_of}
-use Rattle.step_sets.specs.Kinds.{Nodes, kind_of}
+use Rattle.node_tree.specs.Kinds.{Nodes, kind_of}
 
 -- what is recorded for each history node
 abbrev pub History : Type 0
@@ -24,8 +24,10 @@ recorded_or (n ∷ rest) others = n ∷ rest
 -- where a target of this kind leads: a history node to what is recorded for it, or else to its
 -- default, or else to its parent; any other node to itself
 abbrev pub goals_by_kind : Kind → ℕ → List ℕ → Option ℕ → List ℕ
-goals_by_kind (Shallow default) target recorded parent = recorded_or recorded (option_to_list (option_or default parent))
-goals_by_kind (Deep default) target recorded parent = recorded_or recorded (option_to_list (option_or default parent))
+goals_by_kind (Shallow default) target recorded parent =
+    recorded_or recorded (option_to_list (option_or default parent))
+goals_by_kind (Deep default) target recorded parent =
+    recorded_or recorded (option_to_list (option_or default parent))
 goals_by_kind Atomic target recorded parent = target ∷ []
 goals_by_kind (Compound initial) target recorded parent = target ∷ []
 goals_by_kind Parallel target recorded parent = target ∷ []
@@ -34,8 +36,10 @@ goals_by_kind Final target recorded parent = target ∷ []
 -- where a target of the tree leads
 abbrev pub goals_at : Nodes → History → Option Kind → ℕ → List ℕ
 goals_at nodes history None target = []
-goals_at nodes history (Some kind) target = goals_by_kind kind target (unwrap_or (record_of history target) []) (parent_of nodes target)
+goals_at nodes history (Some kind) target =
+    goals_by_kind kind target (unwrap_or (record_of history target) []) (parent_of nodes target)
 
 -- the goals of a transition: where its targets lead, in their order
 abbrev pub goals_of : Nodes → History → List ℕ → List ℕ
-goals_of nodes history targets = flat_map (λ t. goals_at nodes history (kind_of nodes t) t) targets
+goals_of nodes history targets =
+    flat_map (λ t. goals_at nodes history (kind_of nodes t) t) targets

@@ -4,9 +4,9 @@ pub mod Entries
 pub mod Exits
 pub mod Goals
 pub mod History
-pub mod Kinds
 pub mod Laws
 pub mod Marks
 pub mod Preemption
 pub mod Sets
 pub mod Statechart
+pub use Rattle.node_tree.specs.Kinds

@@ -8,12 +8,15 @@ Meets a b = (n : ℕ) × Contains a n × Contains b n
 -- the exit set meets that of one that stays before it
 abbrev pub IsPreempted : List (List ℕ) → List Bool → ℕ → Type 0
 IsPreempted exits stays i =
-    (j : ℕ) × (j < i) × (slice_index_or stays j false ≡ true) × Meets (slice_index_or exits j []) (slice_index_or exits i [])
+    (j : ℕ) × (j < i) × (slice_index_or stays j false ≡ true)
+    × Meets (slice_index_or exits j []) (slice_index_or exits i [])
 
 -- one transition stays exactly if it is not preempted
 pub record KeepsUnpreempted (exits : List (List ℕ)) (stays : List Bool) : Type 0 where
   pub each : length stays ≡ length exits
-  pub cases : (i : ℕ) → i < length exits → MatchBool (slice_index_or stays i false) (¬ IsPreempted exits stays i) (IsPreempted exits stays i)
+  pub cases : (i : ℕ) → i < length exits
+      → MatchBool (slice_index_or stays i false)
+      (¬ IsPreempted exits stays i) (IsPreempted exits stays i)
 
 -- some node of the list is taken
 abbrev pub HasTaken : List ℕ → (ℕ → Bool) → Type 0

@@ -1,14 +1,15 @@
+//! The entry set of a transition.
+
 ghost use Rattle.std.specs.Prelude.{◌≡◌, ◌↔◌, ◌<◌, IfOk, IsTrue, length};
 ghost use Rattle.node_tree.specs.Nodes.{AreNodes};
-ghost use Rattle.step_sets.specs.Domains.{IsDomainOf};
+ghost use Rattle.step_sets.specs.Domains.{IsDomainOf, IsUnder};
 ghost use Rattle.step_sets.specs.Entries.{CanBeEntered, IsEntered};
 ghost use Rattle.step_sets.specs.Marks.{AreMarks, EntersChild, IsEnteredByMarks, IsEnteredByOpen};
 ghost use Rattle.step_sets.specs.Sets.{IsSetOf};
 
 use crate::Domain;
-use crate::exits::is_under;
 use crate::marks::{leads_to_goal, mark, mark_above_goals};
-use crate::nodes::{is_history, parent};
+use crate::nodes::is_history;
 use node_tree::{Kind, NodeSet, Tree};
 use std::alloc::{AllocError, Global};
 use xs_data::Items;
@@ -24,7 +25,8 @@ pub fn entry_set(
 ) -> Result<NodeSet, AllocError>
     requires goals { AreNodes tree.now goals.now }
     requires domain { IsDomainOf tree.now domain }
-    ensures entries { IfOk result (λ entries. IsSetOf (IsEntered tree.now goals.now domain) entries) }
+    ensures entries { IfOk result
+        (λ entries. IsSetOf (IsEntered tree.now goals.now domain) entries) }
     ensures of_tree { IfOk result (λ entries. AreNodes tree.now entries) }
 {
     let are_goals = mark(alloc, tree, goals)?;
@@ -67,7 +69,11 @@ fn is_entered(
     requires above { length above_goals.now ≡ length tree.now }
     requires opened { length opened.now ≡ length tree.now }
     ensures { IsTrue result
-        ↔ IsEnteredByMarks tree.now domain are_goals.now above_goals.now opened.now node }
+        ↔ IsEnteredByMarks tree.now domain (record {
+          are_goals = are_goals.now;
+          above_goals = above_goals.now;
+          opened = opened.now;
+        }) node }
 {
     if node == 0 && is_whole(domain) {
         return true;
@@ -77,6 +83,7 @@ fn is_entered(
             || is_entered_by_parent(tree, above_goals, opened, node))
 }
 
+/// Whether the domain is the whole tree.
 fn is_whole(domain: Domain) -> bool
     ensures { IsTrue result ↔ (domain ≡ Domain.Whole) }
 {
@@ -86,12 +93,25 @@ fn is_whole(domain: Domain) -> bool
     }
 }
 
+/// Whether a node is below the domain and no history node.
 fn can_be_entered(tree: &Tree, domain: Domain, node: u32) -> bool
     requires node { node < length tree.now }
     requires domain { IsDomainOf tree.now domain }
     ensures { IsTrue result ↔ CanBeEntered tree.now domain node }
 {
     is_under(tree, domain, node) && !is_history(tree, node)
+}
+
+/// Whether a node is below the domain.
+fn is_under(tree: &Tree, domain: Domain, node: u32) -> bool
+    requires node { node < length tree.now }
+    requires domain { IsDomainOf tree.now domain }
+    ensures { IsTrue result ↔ IsUnder tree.now domain node }
+{
+    match domain {
+        Domain::Node(high) => tree.below(node, high),
+        Domain::Whole => true,
+    }
 }
 
 /// Whether the parent of a node is open and enters it by default.
@@ -101,7 +121,7 @@ fn is_entered_by_parent(tree: &Tree, above_goals: &[bool], opened: &[bool], node
     requires opened { length opened.now ≡ length tree.now }
     ensures { IsTrue result ↔ IsEnteredByOpen tree.now above_goals.now opened.now node }
 {
-    match parent(tree, node) {
+    match tree.parent(node) {
         Some(above) => opened[above as usize] && enters_child(tree, above_goals, above, node),
         None => false,
     }

@@ -1,20 +1,22 @@
-ghost use Rattle.std.specs.Prelude.{◌≡◌, ◌↔◌, ◌<◌, Contains, IfOk, IfSome, IsTrue, MatchOption, Some, length};
-ghost use Rattle.node_tree.specs.Nodes.{AreNodes, IsChild};
+//! What a microstep records for history nodes.
+
+ghost use Rattle.std.specs.Prelude.{◌≡◌, ◌↔◌, ◌<◌, Contains, IfOk, IfSome, IsTrue, MatchOption, length};
+ghost use Rattle.node_tree.specs.Nodes.{AreNodes, IsBelow, IsChild};
 ghost use Rattle.step_sets.specs.Goals.{record_of};
-ghost use Rattle.step_sets.specs.History.{ArePlaces, CanBeRemembered, IsNewRecord, IsPlaceIn, IsRecordedNow, IsRemembered, NamesNodes, RecordsHistory, record_at};
-ghost use Rattle.step_sets.specs.Kinds.{IsHistory, kind_of};
-ghost use Rattle.node_tree.specs.declared.node.Kind.{Kind};
+ghost use Rattle.step_sets.specs.History.{ArePlaces, CanBeRemembered, IsNewRecord, IsPlaceIn, IsRecordedNow, IsRemembered, RecordsNodes, RecordsHistory, record_at};
+ghost use Rattle.node_tree.specs.Kinds.{IsHistory};
 ghost use Rattle.step_sets.specs.Sets.{IsSetOf};
 
-use crate::nodes::{is_history, is_leaf, parent};
+use crate::nodes::{is_history, is_leaf};
+use crate::runs::run_below;
 use node_tree::{Kind, NodeSet, Recorded, Targets, Tree};
 use std::alloc::{AllocError, Global};
 use xs_data::Items;
 
 /// The recorded history after these nodes are left, as SCXML's `exitStates` records it: for each
 /// history node whose parent is left the active children of that parent, or for a deep one the active
-/// leaves below it. Every other record stays. It costs a pass over the tree, and a look at each active
-/// node for each history node that is recorded.
+/// leaves below it. Every other record stays. It costs a pass over the tree, a copy of each record, and for
+/// each history node that is recorded a binary search and a look at each active node below its parent.
 pub fn record_history(
     alloc: Global,
     tree: &Tree,
@@ -24,9 +26,10 @@ pub fn record_history(
 ) -> Result<Recorded, AllocError>
     requires active { AreNodes tree.now active.now }
     requires exits { AreNodes tree.now exits.now }
-    requires old { NamesNodes tree.now old.now }
-    ensures history { IfOk result (λ new. RecordsHistory tree.now active.now exits.now old.now new) }
-    ensures of_tree { IfOk result (λ new. NamesNodes tree.now new) }
+    requires old { RecordsNodes tree.now old.now }
+    ensures history { IfOk result (λ new. RecordsHistory tree.now
+        (record { active = active.now; exits = exits.now; recorded = old.now }) new) }
+    ensures of_tree { IfOk result (λ new. RecordsNodes tree.now new) }
 {
     let places = places_of_records(alloc, tree, old)?;
     let mut records = Vec::new(alloc);
@@ -45,7 +48,7 @@ fn places_of_records(
     tree: &Tree,
     history: &Recorded,
 ) -> Result<Vec<Option<usize>>, AllocError>
-    requires { NamesNodes tree.now history.now }
+    requires { RecordsNodes tree.now history.now }
     ensures { IfOk result (λ places. ArePlaces tree.now history.now places.items) }
 {
     let count = tree.len() as usize;
@@ -72,9 +75,9 @@ fn new_record(
     requires node { node < length tree.now }
     requires place { IsPlaceIn old.now place }
     requires at_place { record_of old.now node ≡ record_at old.now place }
-    requires old { NamesNodes tree.now old.now }
-    ensures nodes { IfOk result
-        (λ nodes. IsNewRecord tree.now active.now exits.now old.now node nodes) }
+    requires old { RecordsNodes tree.now old.now }
+    ensures nodes { IfOk result (λ nodes. IsNewRecord tree.now
+        (record { active = active.now; exits = exits.now; recorded = old.now }) node nodes) }
     ensures of_tree { IfOk result (λ nodes. IfSome nodes (λ list. AreNodes tree.now list)) }
 {
     match left_parent(tree, exits, node) {
@@ -93,13 +96,14 @@ fn left_parent(tree: &Tree, exits: &NodeSet, node: u32) -> Option<u32>
     if !is_history(tree, node) {
         return None;
     }
-    match parent(tree, node) {
+    match tree.parent(node) {
         Some(above) if exits.has(above) => Some(above),
         _ => None,
     }
 }
 
-/// The active nodes that a history node remembers of its parent.
+/// The active nodes that a history node remembers of its parent. It costs a binary search and a look at
+/// each active node below the parent.
 fn remembered(
     alloc: Global,
     tree: &Tree,
@@ -108,39 +112,42 @@ fn remembered(
     parent: u32,
 ) -> Result<Targets, AllocError>
     requires active { AreNodes tree.now active.now }
-    requires history { history < length tree.now }
     requires parent { parent < length tree.now }
-    ensures nodes { IfOk result (λ nodes. (kind : Kind) → kind_of tree.now history ≡ Some kind
-        → IsSetOf (IsRemembered tree.now active.now kind parent) nodes) }
+    requires child { IsChild tree.now history parent }
+    ensures nodes { IfOk result
+        (λ nodes. IsSetOf (IsRemembered tree.now active.now history) nodes) }
     ensures of_tree { IfOk result (λ nodes. AreNodes tree.now nodes) }
 {
-    let kind = &tree.node(history).kind;
     let mut nodes = Vec::new(alloc);
-    for node in active.as_slice() {
-        if can_be_remembered(tree, kind, parent, *node) {
+    for node in run_below(tree, active.as_slice(), parent) {
+        if can_be_remembered(tree, history, parent, *node) {
             nodes.push(*node)?;
         }
     }
     Ok(Items::from_vec(nodes))
 }
 
-fn can_be_remembered(tree: &Tree, kind: &Kind, parent: u32, node: u32) -> bool
-    requires parent { parent < length tree.now }
+/// Whether a history node may remember a node below its parent.
+fn can_be_remembered(tree: &Tree, history: u32, parent: u32, node: u32) -> bool
+    requires history { history < length tree.now }
+    requires child { IsChild tree.now history parent }
+    requires below { IsBelow tree.now node parent }
     requires node { node < length tree.now }
-    ensures { IsTrue result ↔ CanBeRemembered tree.now kind.now parent node }
+    ensures { IsTrue result ↔ CanBeRemembered tree.now history node }
 {
-    match kind {
+    match &tree.node(history).kind {
         Kind::Shallow { .. } => is_child(tree, node, parent),
-        Kind::Deep { .. } => tree.below(node, parent) && is_leaf(tree, node),
+        Kind::Deep { .. } => is_leaf(tree, node),
         Kind::Atomic | Kind::Compound { .. } | Kind::Parallel | Kind::Final => false,
     }
 }
 
+/// Whether a node is a child of another one.
 fn is_child(tree: &Tree, node: u32, above: u32) -> bool
     requires { node < length tree.now }
     ensures { IsTrue result ↔ IsChild tree.now node above }
 {
-    parent(tree, node) == Some(above)
+    tree.parent(node) == Some(above)
 }
 
 /// A copy of the record at a place, if there is one.

@@ -1,4 +1,5 @@
-//! What follows from the definitions of the sets, as contracts of calls that do nothing.
+//! What follows from the definitions of the sets: the contract of each function is a law, and its body
+//! does nothing.
 
 ghost use Rattle.step_sets.specs.Laws.{FirstIsLegal, HistoryStaysFit, NextIsLegal, PreemptionKeepsApart, RecordsHoldChildrenOrLeaves};
 ghost use Rattle.step_sets.specs.Statechart.{IsStatechart};

@@ -6,10 +6,11 @@
 mod entries;
 mod exits;
 mod history;
-mod laws;
+pub mod laws;
 mod marks;
 mod nodes;
 mod preemption;
+mod runs;
 mod targets;
 #[cfg(test)]
 mod tests;
@@ -19,10 +20,6 @@ mod types;
 pub use entries::entry_set;
 pub use exits::exit_set;
 pub use history::record_history;
-pub use laws::{
-    first_configuration_is_legal, history_stays_fit, next_configuration_is_legal,
-    preemption_keeps_apart, records_hold_children_or_leaves,
-};
 pub use node_tree::NodeSet;
 pub use preemption::stays;
 pub use targets::goals;

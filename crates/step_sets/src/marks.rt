@@ -1,9 +1,10 @@
+//! Tables with one truth value for each node.
+
 ghost use Rattle.std.specs.Prelude.{◌≡◌, ◌↔◌, ◌<◌, ◌⊎◌, ℕ, false, Contains, IfOk, IsTrue, length, slice_index_or};
 ghost use Rattle.node_tree.specs.Nodes.{AreNodes, IsChild};
 ghost use Rattle.step_sets.specs.Entries.{HasGoalBelow};
 ghost use Rattle.step_sets.specs.Marks.{AreMarks};
 
-use crate::nodes::parent;
 use node_tree::Tree;
 use std::alloc::{AllocError, Global};
 
@@ -60,7 +61,7 @@ fn mark_parent(tree: &Tree, marks: &mut Vec<bool>, node: u32)
     ensures tells { (n : ℕ) → n < length tree.now → IsTrue (slice_index_or marks.new.items n false)
         ↔ (IsTrue (slice_index_or marks.old.items n false) ⊎ IsChild tree.now node n) }
 {
-    if let Some(above) = parent(tree, node) {
+    if let Some(above) = tree.parent(node) {
         marks[above as usize] = true;
     }
 }

@@ -1,3 +1,5 @@
+//! Which of the enabled transitions stay.
+
 ghost use Rattle.std.specs.Prelude.{◌≡◌, ℕ, IfOk, MatchBool, OnOk};
 ghost use Rattle.std.specs.BTreeSet.{contains};
 ghost use Rattle.std.specs.Ordering.{nat_cmp};

@@ -1,8 +1,10 @@
+//! Where the targets of a transition lead.
+
 ghost use Rattle.std.specs.Prelude.{◌≡◌, ◌<◌, ◌++◌, [], IfOk, OnOk, length, option_to_list, unwrap_or};
 ghost use Rattle.node_tree.specs.Nodes.{AreNodes};
 ghost use Rattle.step_sets.specs.Goals.{goals_of, goals_at, recorded_or, record_of};
-ghost use Rattle.step_sets.specs.History.{NamesNodes};
-ghost use Rattle.step_sets.specs.Kinds.{kind_of};
+ghost use Rattle.step_sets.specs.History.{RecordsNodes};
+ghost use Rattle.node_tree.specs.Kinds.{kind_of};
 
 use node_tree::{Kind, Recorded, Targets, Tree};
 use std::alloc::{AllocError, Global};
@@ -18,7 +20,7 @@ pub fn goals(
     history: &Recorded,
     targets: &[u32],
 ) -> Result<Targets, AllocError>
-    requires history { NamesNodes tree.now history.now }
+    requires history { RecordsNodes tree.now history.now }
     requires targets { AreNodes tree.now targets.now }
     ensures goals { IfOk result (λ goals. goals ≡ goals_of tree.now history.now targets.now) }
     ensures of_tree { IfOk result (λ goals. AreNodes tree.now goals) }

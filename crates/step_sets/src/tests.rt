@@ -4,7 +4,7 @@ ghost use Rattle.std.specs.Prelude.{◌↔◌, ◌<◌, IsTrue, length};
 ghost use Rattle.std.specs.List.Sorted.{IsStrictlyIncreasing};
 ghost use Rattle.node_tree.specs.Nodes.{AreNodes};
 ghost use Rattle.step_sets.specs.Domains.{IsDomainOf};
-ghost use Rattle.step_sets.specs.History.{NamesNodes};
+ghost use Rattle.step_sets.specs.History.{RecordsNodes};
 
 use crate::{Domain, NodeSet, domain, entry_set, exit_set, goals, record_history};
 use node_tree::{Kind, Node, NodeRows, Recorded, Targets, Tree};
@@ -57,7 +57,7 @@ fn is_record(tree: &Tree, entry: &(u32, Targets)) -> bool
 }
 
 fn are_records(tree: &Tree, history: &Recorded) -> bool
-    ensures { IsTrue result ↔ NamesNodes tree.now history.now }
+    ensures { IsTrue result ↔ RecordsNodes tree.now history.now }
 {
     history
         .as_slice()

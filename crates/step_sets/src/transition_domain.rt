@@ -1,9 +1,10 @@
+//! The domain of a transition.
+
 ghost use Rattle.std.specs.Prelude.{◌≡◌, ◌↔◌, ◌<◌, ℕ, length, All, IfSome, IsTrue, MatchOption};
 ghost use Rattle.node_tree.specs.Nodes.{AreNodes, IsBelow, IsWithin};
 ghost use Rattle.step_sets.specs.Domains.{IsDomain, IsDomainOf, IsInternal, IsCommonAncestor, IsInnermostAncestor, outermost_of};
 
 use crate::Domain;
-use crate::nodes::parent;
 use node_tree::Tree;
 
 /// The domain of a transition with targets, after SCXML's `getTransitionDomain`: the node below which
@@ -13,7 +14,8 @@ pub fn domain(tree: &Tree, source: u32, targets: &[u32], reenter: bool) -> Domai
     requires source { source < length tree.now }
     requires targets { AreNodes tree.now targets.now }
     requires some { 0 < length targets.now }
-    ensures domain { IsDomain tree.now source targets.now reenter result }
+    ensures domain { IsDomain tree.now
+        (record { source = source; targets = targets.now; reenter = reenter }) result }
     ensures of_tree { IsDomainOf tree.now result }
 {
     if is_internal(tree, source, targets, reenter) {
@@ -25,6 +27,7 @@ pub fn domain(tree: &Tree, source: u32, targets: &[u32], reenter: bool) -> Domai
     }
 }
 
+/// Whether the transition does not reenter, and each target is the source or below it.
 fn is_internal(tree: &Tree, source: u32, targets: &[u32], reenter: bool) -> bool
     requires source { source < length tree.now }
     requires targets { AreNodes tree.now targets.now }
@@ -33,6 +36,7 @@ fn is_internal(tree: &Tree, source: u32, targets: &[u32], reenter: bool) -> bool
     !reenter && all_within(tree, targets, source)
 }
 
+/// The domain where no node is above the source and all targets.
 fn outermost(reenter: bool) -> Domain
     ensures { result ≡ outermost_of reenter }
 {
@@ -53,7 +57,7 @@ fn innermost_ancestor(tree: &Tree, source: u32, targets: &[u32]) -> Option<u32>
     ensures of_tree { IfSome result (λ a. a < length tree.now) }
 {
     let mut node = source;
-    while let Some(above) = parent(tree, node) {
+    while let Some(above) = tree.parent(node) {
         if all_below(tree, targets, above) {
             return Some(above);
         }
@@ -62,6 +66,7 @@ fn innermost_ancestor(tree: &Tree, source: u32, targets: &[u32]) -> Option<u32>
     None
 }
 
+/// Whether each target is the node or below it.
 fn all_within(tree: &Tree, targets: &[u32], high: u32) -> bool
     requires high { high < length tree.now }
     requires targets { AreNodes tree.now targets.now }
@@ -70,6 +75,7 @@ fn all_within(tree: &Tree, targets: &[u32], high: u32) -> bool
     targets.iter().all(|t| is_within(tree, *t, high))
 }
 
+/// Whether each target is below the node.
 fn all_below(tree: &Tree, targets: &[u32], high: u32) -> bool
     requires high { high < length tree.now }
     requires targets { AreNodes tree.now targets.now }
@@ -78,6 +84,7 @@ fn all_below(tree: &Tree, targets: &[u32], high: u32) -> bool
     targets.iter().all(|t| tree.below(*t, high))
 }
 
+/// Whether the one node is the other or below it.
 fn is_within(tree: &Tree, low: u32, high: u32) -> bool
     requires low { low < length tree.now }
     requires high { high < length tree.now }

@@ -1,3 +1,5 @@
+//! The types of the answers.
+
 use xs_data::Items;
 
 /// Where a transition works: below one node, or in the whole tree with its root.

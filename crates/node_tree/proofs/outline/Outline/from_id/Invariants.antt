@@ -1,7 +1,7 @@
 use Rattle.std.proofs.Common.{◌≡◌, ◌≤◌, ℕ, length, false}
 use Rattle.std.specs.Prelude.{is_some}
 use Rattle.node_tree.specs.Targets.{id_front}
-use Rattle.node_tree.proofs.tree.Tree.from_id.Given as goal
+use Rattle.node_tree.proofs.outline.Outline.from_id.Given as goal
 
 -- no longer front is an id
 abbrev pub invariant-loop-len : goal.invariant-loop-len

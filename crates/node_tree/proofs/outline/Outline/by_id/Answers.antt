@@ -2,7 +2,7 @@ use Rattle.std.proofs.Common.{◌∙◌, ap}
 use Rattle.std.specs.Str.{bytes_eq}
 use Rattle.node_tree.specs.Nodes.{id_at}
 use Rattle.node_tree.proofs.PlaceLemmas.{found_inside}
-use Rattle.node_tree.proofs.tree.Tree.by_id.Goals as goal
+use Rattle.node_tree.proofs.outline.Outline.by_id.Goals as goal
 
 pub returns-clause-inside : goal.returns-clause-inside
 returns-clause-inside c =

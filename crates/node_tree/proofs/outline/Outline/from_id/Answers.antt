@@ -1,6 +1,6 @@
 use Rattle.std.proofs.Common.{◌-◌, ℕ, sym, ◌∙◌, arith}
 use Rattle.node_tree.proofs.TargetLemmas.{from_id-found, from_id-none, take-rest}
-use Rattle.node_tree.proofs.tree.Tree.from_id.Goals as goal
+use Rattle.node_tree.proofs.outline.Outline.from_id.Goals as goal
 
 pub returns-in-Some-clause-led : goal.returns-in-Some-clause-led
 returns-in-Some-clause-led c =

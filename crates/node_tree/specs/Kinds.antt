@@ -1,6 +1,6 @@
--- The kinds of nodes, and where a node stands in the tree.
-use Rattle.std.specs.Prelude.{ℕ, List, Option, IsSomeAnd, slice_get}
-use Rattle.std.specs.Option.{option_map}
+-- The kinds of nodes, and the defaults of history nodes.
+use Rattle.std.specs.Prelude.{ℕ, List, Option, Some, IsSomeAnd, slice_get, slice_set}
+use Rattle.std.specs.Option.{option_map, option_map_or}
 use Rattle.node_tree.specs.declared.node.Kind.{Kind}
 use Rattle.node_tree.specs.declared.node.Kind.TheVariants.{Atomic, Compound, Parallel, Final, Shallow, Deep}
 use Rattle.node_tree.specs.declared.node.Node.{Node}
@@ -38,3 +38,19 @@ IsHistory nodes n = IsSomeAnd (kind_of nodes n) IsHistoryKind
 -- a leaf is an atomic or final node
 abbrev pub IsLeaf : Nodes → ℕ → Type 0
 IsLeaf nodes n = IsSomeAnd (kind_of nodes n) IsLeafKind
+
+-- the same kind of history node with this default; any other kind as it is
+abbrev pub with_default : Kind → ℕ → Kind
+with_default (Shallow default) n = Shallow (Some n)
+with_default (Deep default) n = Deep (Some n)
+with_default Atomic n = Atomic
+with_default (Compound initial) n = Compound initial
+with_default Parallel n = Parallel
+with_default Final n = Final
+
+-- the nodes, where one of them has this default, and all else is as it was
+abbrev pub with_default_at : Nodes → ℕ → ℕ → Nodes
+with_default_at nodes history n =
+    option_map_or
+    (λ (node : Node). slice_set nodes history (record node { kind = with_default node.kind n }))
+    (slice_get nodes history) nodes

@@ -1,7 +1,0 @@
-use Rattle.std.proofs.Common.{sym, ◌∙◌, ap}
-use Rattle.node_tree.specs.Targets.{down, keys_of}
-use Rattle.node_tree.proofs.TargetLemmas.{down-none}
-use Rattle.node_tree.proofs.tree.Tree.down_beside.Goals as goal
-
-pub returns-in-None-clause-led : goal.returns-in-None-clause-led
-returns-in-None-clause-led c = sym (ap (λ from. down c.args.self.now from (keys_of c.args.keys.now)) (sym c.in-None.ensures.parent) ∙ down-none c.args.self.now (keys_of c.args.keys.now))
