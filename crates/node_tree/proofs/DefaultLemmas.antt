@@ -1,7 +1,7 @@
 -- What setting the default of a history node changes, and what it leaves.
-use Rattle.std.proofs.Common.{◌≡◌, ◌↔◌, ◌<◌, ◌+◌, ℕ, zero, suc, Bool, cond, List, [], ◌∷◌, length, get_or, refl, sym, ◌∙◌, ap, subst, inl, inr, length-set, ◌&&◌}
+use Rattle.std.proofs.Common.{◌≡◌, ◌<◌, ◌+◌, ℕ, zero, suc, Bool, cond, List, [], ◌∷◌, length, get_or, refl, sym, ◌∙◌, ap, subst, inl, inr, length-set, ◌&&◌}
 use Rattle.std.specs.Prelude.{Option, Some, None, IfSome, slice_get, slice_set, nat_eq}
-use Rattle.std.specs.Option.{option_and_then, option_eq, option_map, option_map_or}
+use Rattle.std.specs.Option.{option_and_then, option_eq, option_map}
 use Rattle.std.specs.List.{position, position_from}
 use Rattle.std.specs.Str.{bytes_eq}
 use Rattle.std.proofs.lemmas.Iterator.Adapters.{position_from-zero}
@@ -10,7 +10,7 @@ use Rattle.node_tree.specs.declared.node.Node.{Node}
 use Rattle.node_tree.specs.declared.node.Kind.{Kind}
 use Rattle.node_tree.specs.declared.node.Kind.TheVariants.{Atomic, Compound, Parallel, Final, Shallow, Deep}
 use Rattle.node_tree.specs.Kinds.{IsHistory, IsHistoryKind, with_default, with_default_at}
-use Rattle.node_tree.specs.Nodes.{AreRows, HasNames, HasNewId, HaveNewIds, IsBelow, child, further, IsFirstBreach, IsOutline, IsPlaced, IsWithin, NamesNodes, TellsRepeated, child_of, id_at, id_of, parent_of}
+use Rattle.node_tree.specs.Nodes.{HasNames, HasNewId, IsBelow, child, further, IsOutline, IsPlaced, IsWithin, NamesNodes, TellsRepeated, child_of, id_at, id_of, parent_of}
 use Rattle.node_tree.specs.Tables.{AreChildren, AreEnds, AreIds, NodesByName}
 
 -- two lists of rows that differ in their kinds alone

@@ -1,5 +1,5 @@
 -- An outline's fault as the tree's.
-use Rattle.std.proofs.Common.{◌≡◌, ◌↔◌, ℕ, List, ap, refl, ◌∙◌, sym}
+use Rattle.std.proofs.Common.{◌≡◌, ◌↔◌, ℕ, ap, ◌∙◌}
 use Rattle.std.specs.Prelude.{Result, Ok, Err}
 use Rattle.std.specs.Result.{IsErrAnd}
 use Rattle.node_tree.specs.declared.fault.OutlineFault.{OutlineFault}

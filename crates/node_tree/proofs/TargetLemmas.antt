@@ -1,5 +1,5 @@
 -- Keys between dots, and the longest id of a text.
-use Rattle.std.proofs.Common.{◌≡◌, ◌<◌, ◌≤◌, ◌+◌, ◌-◌, ℕ, zero, suc, Bool, true, false, List, [], ◌∷◌, length, take, drop, cond, ◌++◌, ◌&&◌, arith, refl, sym, ◌∙◌, ap, length-append, inl, inr}
+use Rattle.std.proofs.Common.{◌≡◌, ◌<◌, ◌≤◌, ◌+◌, ◌-◌, ℕ, zero, suc, Bool, true, false, List, [], ◌∷◌, length, take, drop, cond, ◌++◌, ◌&&◌, arith, refl, ◌∙◌, ap, length-append, inl, inr}
 use Rattle.std.specs.Prelude.{Option, Some, None, nat_eq, is_some}
 use Rattle.std.specs.List.{position, position_or_len}
 use Rattle.std.proofs.lemmas.List.Splits.{slice_split_first, slice_split_none}

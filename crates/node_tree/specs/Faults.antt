@@ -1,5 +1,4 @@
 -- The faults of a tree that are those of an outline.
-use Rattle.std.specs.Prelude.{ℕ}
 use Rattle.node_tree.specs.declared.fault.OutlineFault.{OutlineFault}
 use Rattle.node_tree.specs.declared.fault.OutlineFault.TheVariants.{NoNode, Memory}
 use Rattle.node_tree.specs.declared.fault.TreeFault.{TreeFault}

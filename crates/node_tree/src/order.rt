@@ -1,6 +1,6 @@
 //! Whether rows stand in document order and name nodes that are there.
 
-ghost use Rattle.std.specs.Prelude.{◌≡◌, ◌↔◌, ◌+◌, ◌<◌, ◌^◌, ℕ, IfNone, IfSome, IsTrue, length, slice_get};
+ghost use Rattle.std.specs.Prelude.{◌↔◌, ◌+◌, ◌<◌, ◌^◌, IfNone, IfSome, IsTrue, length};
 ghost use Rattle.node_tree.specs.Nodes.{ArePlaced, AreRows, HasNames, IsChild, IsFirstMisplaced, IsPlaced, IsWithin};
 
 use crate::node::{Kind, Node};

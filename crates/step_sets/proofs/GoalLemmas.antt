@@ -13,7 +13,7 @@ use Rattle.node_tree.specs.Kinds.{kind_of, IsHistory, IsHistoryKind}
 use Rattle.step_sets.specs.Statechart.{AreOrthogonal, CountsFor, DoNotClash, HasDefault, IsFitHistory, IsFitRecord, IsParentKind, IsStatechart}
 use Rattle.step_sets.proofs.RememberedLemmas.{remembered_below}
 use Rattle.step_sets.proofs.ListLemmas.{Contains-flat_map, Contains-cons_cases}
-use Rattle.step_sets.proofs.TreeLemmas.{below_trans, below_within, child_towards, comparable, history_inside, one_parent, path_child_unique, within_parent, within_trans}
+use Rattle.step_sets.proofs.TreeLemmas.{below_trans, below_within, child_towards, comparable, history_inside, path_child_unique, within_parent, within_trans}
 
 -- a node of a kind that is no history kind is no history node
 pub not_history_by_kind : (nodes : List Node) (n : ℕ) (kind : Kind) → kind_of nodes n ≡ Some kind → ¬ IsHistoryKind kind → ¬ IsHistory nodes n

@@ -2,18 +2,14 @@
 use Rattle.std.proofs.Common.{◌≡◌, ◌≢◌, ◌∙◌, ◌<◌, ◌≤◌, ◌+◌, ℕ, List, [], ◌∷◌, ◌++◌, length, get_or, drop, Option, Some, None, arith, inl, inr, sym, refl, subst}
 use Rattle.std.specs.List.{All}
 use Rattle.std.specs.List.Sorted.{IsStrictlyIncreasing}
-use Rattle.std.specs.Option.{option_map}
-use Rattle.std.specs.Prelude.{slice_get}
 use Rattle.std.proofs.lemmas.Bool.{cases_eq, cases_lt}
 use Rattle.std.proofs.lemmas.Bool.Decides.{nat_tests}
 use Rattle.std.proofs.lemmas.List.{map_push}
 use Rattle.std.proofs.lemmas.List.Elements.{All-head, All-tail, All-push, All-weaker, All-map, All-contains}
-use Rattle.node_tree.specs.declared.node.Kind.{Kind}
 use Rattle.node_tree.specs.declared.node.Node.{Node}
 use Rattle.node_tree.specs.Nodes.{AreNodes}
 use Rattle.step_sets.specs.Goals.{History, record_of}
 use Rattle.step_sets.specs.History.{Departure, IsNewRecord, IsPlaceIn, RecordsNodes, RecordsHistory, record_at, history_nodes}
-use Rattle.node_tree.specs.Kinds.{kind_of}
 use Rattle.step_sets.proofs.TreeLemmas.{child_inside}
 use Rattle.step_sets.proofs.SetLemmas.{IsStrictlyIncreasing-push}
 

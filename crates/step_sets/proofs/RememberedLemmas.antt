@@ -1,5 +1,5 @@
 -- What a history node may remember, where its kind and its parent are known.
-use Rattle.std.proofs.Common.{◌≡◌, ◌↔◌, ℕ, List, Bool, Option, Some, IsTrue, refl, sym, subst}
+use Rattle.std.proofs.Common.{◌≡◌, ◌↔◌, ℕ, List, Bool, Option, Some, IsTrue, subst}
 use Rattle.node_tree.specs.declared.node.Kind.TheVariants.{Shallow, Deep}
 use Rattle.node_tree.specs.declared.node.Node.{Node}
 use Rattle.node_tree.specs.Nodes.{IsBelow, IsChild, child}

@@ -2,7 +2,7 @@
 use Rattle.std.proofs.Common.{◌≡◌, ◌<◌, ◌⊎◌, ℕ, zero, suc, List, length, Option, Some, None, arith, inl, inr, sym, subst, refl}
 use Rattle.std.specs.Prelude.{slice_get}
 use Rattle.std.proofs.lemmas.Bool.{cases_eq}
-use Rattle.std.specs.Option.{IfSome, IsSomeAnd, option_and_then, option_map}
+use Rattle.std.specs.Option.{IsSomeAnd, option_and_then, option_map}
 use Rattle.node_tree.specs.Kinds.{IsHistory, IsHistoryKind, kind_of}
 use Rattle.std.proofs.lemmas.Option.{slice_get_within}
 use Rattle.node_tree.specs.declared.node.Kind.{Kind}
@@ -36,10 +36,6 @@ below_less_within nodes tree (suc fuel) l0 h0 h (further low parent high c b) =
 -- what a node is below stands before it
 pub below_less : (nodes : List Node) → IsTree nodes → (low high : ℕ) → IsBelow nodes low high → high < low
 below_less nodes tree low high b = below_less_within nodes tree (suc low) low high (omega arith) b
-
--- the parent that a node's row names
-pub child_read : (nodes : List Node) (n p : ℕ) (node : Node) → slice_get nodes n ≡ Some node → node.parent ≡ Some p → IsChild nodes n p
-child_read nodes n p node is e = let P : Option Node → Type 0 = λ o. option_and_then (λ (row : Node). row.parent) o ≡ Some p in subst P (sym is) e
 
 -- one node has one parent
 pub one_parent : (nodes : List Node) (n p q : ℕ) → IsChild nodes n p → IsChild nodes n q → p ≡ q
@@ -75,14 +71,6 @@ below_parent nodes l0 h0 p (further low parent high c b) d = further low parent 
 pub within_parent : (nodes : List Node) (l h p : ℕ) → IsWithin nodes l h → IsChild nodes h p → IsBelow nodes l p
 within_parent nodes l h p (inl e) d = let P : ℕ → Type 0 = λ x. IsBelow nodes x p in subst P (sym e) (child h p d)
 within_parent nodes l h p (inr b) d = below_parent nodes l h p b d
-
--- the parent that a row names stands before it
-pub parent_before : (nodes : List Node) → IsTree nodes → (n : ℕ) (node : Node) → slice_get nodes n ≡ Some node → IfSome node.parent (λ p. p < n)
-parent_before nodes tree n node is = at node.parent refl
-  where
-    at : (o : Option ℕ) → node.parent ≡ o → IfSome o (λ p. p < n)
-    at None e = tt
-    at (Some p) e = parent_less nodes tree n p (child_read nodes n p node is e)
 
 -- what is below a node is a node of the tree
 pub below_inside : (nodes : List Node) (l h : ℕ) → IsBelow nodes l h → l < length nodes

@@ -6,7 +6,7 @@ use Rattle.node_tree.specs.Nodes.{IsBelow, IsChild, IsWithin}
 use Rattle.step_sets.specs.Configuration.{IsLegal}
 use Rattle.step_sets.specs.Goals.{History, record_of}
 use Rattle.step_sets.specs.History.{IsRemembered}
-use Rattle.node_tree.specs.Kinds.{Nodes, kind_of, IsHistory, IsHistoryKind}
+use Rattle.node_tree.specs.Kinds.{Nodes, kind_of, IsHistory}
 use Rattle.step_sets.specs.Sets.{IsSetOf}
 
 -- the kind is compound or parallel

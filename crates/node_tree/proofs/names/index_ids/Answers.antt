@@ -1,9 +1,7 @@
-use Rattle.std.proofs.Common.{◌≡◌, ap, subst, sym, ◌∙◌}
-use Rattle.std.specs.Prelude.{Option}
-use Rattle.std.specs.Option.{option_or}
+use Rattle.std.proofs.Common.{◌≡◌, ap, sym, ◌∙◌}
 use Rattle.node_tree.specs.Tables.{node_named}
 use Rattle.node_tree.specs.declared.node.Node.{Node}
-use Rattle.node_tree.proofs.NameLemmas.{RepeatsBefore, id_entered, repeats_next}
+use Rattle.node_tree.proofs.NameLemmas.{id_entered, repeats_next}
 use Rattle.node_tree.proofs.names.index_ids.Goals as goal
 
 pub loop-n-preserved : goal.loop-n-preserved
