@@ -4,6 +4,8 @@ import subprocess
 import tempfile
 import time
 
+HERE = os.path.dirname(os.path.abspath(__file__))
+
 
 def best(of, times):
     """The shortest of so many calls, in milliseconds."""
@@ -29,3 +31,23 @@ def run_over(program, definitions, status, times):
                 raise SystemExit(f"{program} ended with {ended.returncode}")
 
         return best(run, times)
+
+
+def readings(name, rounds):
+    """Builds a program of bench/programs and lets it measure so often.
+
+    For each thing that it measured, in order: its name, its size, and the fewest microseconds that it took. A line of one
+    word is a heading, which the names below it begin with.
+    """
+    built = subprocess.run([os.path.join(HERE, "build.sh"), name], stdout=subprocess.PIPE, text=True, check=True)
+    printed = subprocess.run([built.stdout.strip(), str(rounds)], stdout=subprocess.PIPE, text=True, check=True)
+    heading, fewest = "", {}
+    for line in printed.stdout.splitlines():
+        what, *numbers = line.split()
+        if not numbers:
+            heading = what + " "
+            continue
+        size, took = map(int, numbers)
+        key = (heading + what, size)
+        fewest[key] = min(took, fewest.get(key, took))
+    return [(what, size, took) for (what, size), took in fewest.items()]

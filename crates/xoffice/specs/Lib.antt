@@ -1,2 +1,6 @@
-pub mod Answer
+pub mod Answers
+pub mod Calls
+pub mod Files
+pub mod Sides
+pub mod Stations
 pub mod Untold

@@ -1,10 +1,15 @@
 //! The program: gives the words, the definitions file and the standard streams to the run.
 #![tactic(auto)]
 
+mod faults;
+mod file_disk;
 mod file_source;
+mod file_system;
+mod lazy_file;
 mod side_file;
 mod standard_station;
 mod tally;
+mod writer;
 
 use crate::file_source::FileSource;
 use crate::side_file::SideFile;
@@ -36,22 +41,23 @@ fn word(words: &[RcStr], place: usize) -> &str {
     words.get(place).map_or("", |word| word.as_str())
 }
 
-/// The status of a run on the words, the files and the standard streams of this process. It fails for want of memory.
+/// The status of a run on the words, over the standard streams and these files of the journal.
+fn status_over<'a>(rt: &'a HostRuntime, words: &'a [RcStr], a: &'a str, b: &'a str) -> u8 {
+    let mut defs = FileSource::new(rt, word(words, 1));
+    let a = SideFile::new(rt, a);
+    let b = SideFile::new(rt, b);
+    let station = StandardStation::new(rt.stdin(), rt.stdout(), a, b);
+    office_run::run(rt.alloc(), words, &mut defs, station).status
+}
+
+/// The status of this process. It fails for want of memory.
 fn status(rt: &HostRuntime) -> io::Result<u8> {
     let words = words(rt)?;
-    // `run DEFS JOURNAL`. Where the words are in no form, the run touches neither, so nothing is opened.
-    let definitions = word(&words, 1);
+    // `run DEFS JOURNAL`. Each file is opened at the first call that needs it.
     let journal = word(&words, 2);
     let a = format!(in rt.alloc(); "{journal}.a")?;
     let b = format!(in rt.alloc(); "{journal}.b")?;
-    let station = StandardStation::new(
-        rt.stdin(),
-        rt.stdout(),
-        SideFile::new(rt, a),
-        SideFile::new(rt, b),
-    );
-    let mut defs = FileSource::new(rt, definitions);
-    Ok(office_run::run(rt.alloc(), &words, &mut defs, station).status)
+    Ok(status_over(rt, &words, a.as_str(), b.as_str()))
 }
 
 fn main(rt: HostRuntime) -> ExitCode {

@@ -1,118 +1,120 @@
-// A side of the journal as a file.
+//! A side of the journal as a file.
 
-use std::fs::{self, OpenFile, OpenOptions};
-use std::io::{self, ErrorKind, Read, Seek, SeekFrom, Write};
-use std::path::Path;
-use std::rt::Files;
+ghost use Rattle.std.specs.Prelude.{◌≡◌, ◌⊎◌, None, Ok, true, false, IfOk, OnErr, IfSome, IfNone, OnOk};
+ghost use Rattle.xoffice.specs.Files.{Finds, IsMissing};
+ghost use Rattle.xoffice.specs.declared.file_system.Access.TheVariants.{Update};
+
+use crate::file_system::{Access, FileSystem};
+use crate::lazy_file::LazyFile;
+use std::io::{self, ErrorKind};
 
 /// A side in a file, which is opened at the first call that needs it. A file that isn't there reads as an
 /// empty side, and the first write makes it.
 #[derive(Drop)]
-pub struct SideFile<'a, F: Files> {
-    files: &'a F,
-    path: String,
-    file: Option<F::File>,
-    is_entry_synced: bool,
+pub struct SideFile<'a, S: FileSystem> {
+    pub file: LazyFile<'a, S>,
+    pub is_entry_synced: bool,
 }
 
-impl<'a, F: Files> SideFile<'a, F> {
+impl<'a, S: FileSystem> SideFile<'a, S> {
+    ghost use Rattle.xoffice.specs.Sides.{IsLength, IsSynced, GivesBytes, TakesBytes};
+
     /// Opens nothing yet.
-    pub fn new(files: &'a F, path: String) -> SideFile<'a, F> {
+    pub fn new(file_system: &'a S, path: &'a str) -> SideFile<'a, S>
+        ensures file { result.file.file ≡ None }
+        ensures path { result.file.path.now ≡ path.now }
+        ensures entry { result.is_entry_synced ≡ false }
+    {
         SideFile {
-            files,
-            path,
-            file: None,
+            file: LazyFile::new(file_system, path),
             is_entry_synced: false,
         }
     }
 
     /// The number of bytes.
-    pub fn length(&mut self) -> io::Result<u64> {
-        let Some(file) = self.take_file()? else {
+    pub fn length(&mut self) -> io::Result<u64>
+        ensures told { IfOk result (IsLength S.calls self.new) }
+        ensures failed { OnErr result S.calls.failed }
+        ensures entry { self.new.is_entry_synced ≡ self.old.is_entry_synced }
+    {
+        let Some(file) = self.take()? else {
             return Ok(0);
         };
-        let found = file.metadata();
-        self.file = Some(file);
-        Ok(found?.len())
+        let found = self.file.file_system.length(&file);
+        self.file.keep(file);
+        found
     }
 
     /// Fills the slice with the bytes from a place on.
-    pub fn read(&mut self, at: u64, into: &mut [u8]) -> io::Result<()> {
-        let Some(mut file) = self.take_file()? else {
-            return read_nothing(into);
+    pub fn read(&mut self, at: u64, into: &mut [u8]) -> io::Result<()>
+        ensures gives { OnOk result
+            (GivesBytes S.calls (record { at = at; bytes = into.new }) self.old self.new) }
+        ensures failed { OnErr result S.calls.failed }
+        ensures entry { self.new.is_entry_synced ≡ self.old.is_entry_synced }
+    {
+        let mut file = match self.file.take(Access::Update) {
+            Ok(file) => file,
+            Err(error) if error.kind() == ErrorKind::NotFound && into.is_empty() => return Ok(()),
+            Err(error) => return Err(error),
         };
-        let outcome = read_at(&mut file, at, into);
-        self.file = Some(file);
+        let outcome = self.file.file_system.read_at(&mut file, at, into);
+        self.file.keep(file);
         outcome
     }
 
     /// Writes over what stands from a place on, and past the end.
-    pub fn write(&mut self, at: u64, bytes: &[u8]) -> io::Result<()> {
-        let mut file = match self.take_file()? {
+    pub fn write(&mut self, at: u64, bytes: &[u8]) -> io::Result<()>
+        ensures takes { OnOk result
+            (TakesBytes S.calls (record { at = at; bytes = bytes.now }) self.old self.new) }
+        ensures failed { OnErr result S.calls.failed }
+        ensures entry { self.new.is_entry_synced ≡ self.old.is_entry_synced }
+    {
+        let mut file = match self.take()? {
             Some(file) => file,
-            None => options().create(true).open(self.files, self.path.as_str())?,
+            None => self.file.take(Access::Create)?,
         };
-        let outcome = write_at(&mut file, at, bytes);
-        self.file = Some(file);
+        let outcome = self.file.file_system.write_at(&mut file, at, bytes);
+        self.file.keep(file);
         outcome
     }
 
     /// Waits until what was written stands on the disk. The first time it also waits for the entry of the file
     /// in its folder, without which a crash could leave no file.
-    pub fn sync(&mut self) -> io::Result<()> {
-        let Some(file) = self.take_file()? else {
+    pub fn sync(&mut self) -> io::Result<()>
+        ensures synced { OnOk result (IsSynced S.calls self.old self.new) }
+        ensures failed { OnErr result S.calls.failed }
+        ensures entry { self.new.is_entry_synced ≡ true → (self.old.is_entry_synced ≡ true)
+            ⊎ S.calls.syncs_entry self.old.file.path.now (Ok tt) }
+    {
+        let Some(file) = self.take()? else {
             return Ok(());
         };
-        let outcome = file.sync_data();
-        self.file = Some(file);
+        let outcome = self.file.file_system.sync(&file);
+        self.file.keep(file);
         outcome?;
         if !self.is_entry_synced {
-            fs::open(self.files, folder_of(self.path.as_str()))?.sync_all()?;
+            self.file.file_system.sync_entry(self.file.path)?;
             self.is_entry_synced = true;
         }
         Ok(())
     }
 
-    /// The open file, or the file opened now; none where there is no such file.
-    fn take_file(&mut self) -> io::Result<Option<F::File>> {
-        if let Some(file) = self.file.take() {
-            return Ok(Some(file));
-        }
-        match options().open(self.files, self.path.as_str()) {
+    /// TakesBytes out the open file, or the file that is opened now; none where there is no such file.
+    fn take(&mut self) -> io::Result<Option<S::File>>
+        ensures found { IfOk result (λ found. IfSome found
+            (Finds (S.calls.opens Update self.old.file.path.now) self.old.file.file)) }
+        ensures missing { IfOk result (λ found. IfNone found
+            (IsMissing S.calls self.old.file.path.now)) }
+        ensures was_closed { IfOk result (λ found. IfNone found (self.old.file.file ≡ None)) }
+        ensures failed { OnErr result S.calls.failed }
+        ensures left { self.new.file.file ≡ None }
+        ensures path { self.new.file.path.now ≡ self.old.file.path.now }
+        ensures entry { self.new.is_entry_synced ≡ self.old.is_entry_synced }
+    {
+        match self.file.take(Access::Update) {
             Ok(file) => Ok(Some(file)),
             Err(error) if error.kind() == ErrorKind::NotFound => Ok(None),
             Err(error) => Err(error),
         }
     }
-}
-
-fn options() -> OpenOptions {
-    let mut options = OpenOptions::new();
-    options.read(true).write(true);
-    options
-}
-
-fn folder_of(path: &str) -> &str {
-    match Path::new(path).parent() {
-        Some(folder) if !folder.as_str().is_empty() => folder.as_str(),
-        _ => ".",
-    }
-}
-
-fn read_nothing(into: &mut [u8]) -> io::Result<()> {
-    if into.is_empty() {
-        Ok(())
-    } else {
-        Err(ErrorKind::UnexpectedEof.into())
-    }
-}
-
-fn read_at<F: Read + Seek>(file: &mut F, at: u64, into: &mut [u8]) -> io::Result<()> {
-    file.seek(SeekFrom::Start(at))?;
-    file.read_exact(into)
-}
-
-fn write_at<F: Write + Seek>(file: &mut F, at: u64, bytes: &[u8]) -> io::Result<()> {
-    file.seek(SeekFrom::Start(at))?;
-    file.write_all(bytes)
 }

@@ -1,216 +1,192 @@
-// The standard streams and the two files of a journal as a station.
+//! The standard streams and the two files of a journal as a station.
 
+use crate::faults::Faults;
+use crate::file_disk::FileDisk;
+use crate::file_system::FileSystem;
 use crate::side_file::SideFile;
 use crate::tally::Tally;
+use crate::writer::write_whole;
 use std::io::{Read, Write};
-use std::rt::Files;
 use xs_outside::{Both, Disk, Failed, Got, Side, Sink, Source, Station};
 
 /// A reader, a writer and two files: standard input, standard output and the sides of the journal, where the
 /// program makes it.
 #[derive(Drop)]
-pub struct StandardStation<'a, R, W, F: Files> {
+pub struct StandardStation<'a, R, W, S: FileSystem> {
     input: R,
     output: W,
-    a: SideFile<'a, F>,
-    b: SideFile<'a, F>,
+    disk: FileDisk<'a, S>,
     clock: u64,
     tally: Tally,
-    write_faults: u64,
-    disk_faults: u64,
-    fetched: u64,
+    write_faults: Faults,
 }
 
-impl<'a, R: Read, W: Write, F: Files> StandardStation<'a, R, W, F> {
+impl<'a, R: Read, W: Write, S: FileSystem> StandardStation<'a, R, W, S> {
+    ghost use Rattle.std.specs.Prelude.{◌≡◌};
+
     /// The writer is to keep no buffer: what a `write` of the station answers to is out.
     pub fn new(
         input: R,
         output: W,
-        a: SideFile<'a, F>,
-        b: SideFile<'a, F>,
-    ) -> StandardStation<'a, R, W, F> {
+        a: SideFile<'a, S>,
+        b: SideFile<'a, S>,
+    ) -> StandardStation<'a, R, W, S>
+        ensures a { result.disk.a.file.path.now ≡ a.entry.file.path.now }
+        ensures b { result.disk.b.file.path.now ≡ b.entry.file.path.now }
+        ensures clock { result.clock ≡ 0 }
+        ensures taken { result.tally.taken ≡ 0 }
+        ensures read_faults { result.tally.faults.count ≡ 0 }
+        ensures write_faults { result.write_faults.count ≡ 0 }
+        ensures disk_faults { result.disk.faults.count ≡ 0 }
+        ensures fetched { result.disk.fetched ≡ 0 }
+    {
         StandardStation {
             input,
             output,
-            a,
-            b,
+            disk: FileDisk::new(a, b),
             clock: 0,
             tally: Tally::new(),
-            write_faults: 0,
-            disk_faults: 0,
-            fetched: 0,
+            write_faults: Faults::none(),
         }
     }
 }
 
-impl<R: Read, W: Write, F: Files> Source for StandardStation<'_, R, W, F> {
-    ghost use Rattle.std.specs.Prelude.{◌≡◌, ◌≤◌, None};
-    ghost use Rattle.xs_outside.specs.Counts.{Rose};
+impl<R: Read, W: Write, S: FileSystem> Source for StandardStation<'_, R, W, S> {
+    ghost use Rattle.std.specs.Prelude.{◌≡◌, ◌+◌, ◌<◌, ◌≤◌, length, None};
+    ghost use Rattle.xs_outside.specs.Streams.{bytes_given, CountsReadFailure, ReadGives};
+    ghost use Rattle.xoffice.specs.Answers.{ReadsFrom};
+    ghost use Rattle.xoffice.specs.Stations.{ReadsInput};
 
     ghost left = { λ _. None };
 
     ghost taken = { λ s. s.tally.taken };
 
-    ghost read_faults = { λ s. s.tally.faults };
+    ghost read_faults = { λ s. s.tally.faults.count };
 
-    ghost reads = { λ old new. (new.write_faults ≡ old.write_faults) × (new.disk_faults ≡ old.disk_faults) × (new.fetched ≡ old.fetched) × (old.clock ≤ new.clock) × Rose old.clock new.clock };
+    ghost reads = { λ _ old new. ReadsInput old new };
 
-    fn read(&mut self, into: &mut [u8]) -> Got {
+    fn read(&mut self, into: &mut [u8]) -> Got
+        requires { 0 < length into.old }
+        ensures gives { ReadGives result into.new None None }
+        ensures input { ReadsFrom result into.new
+            (R.remaining self.old.input) (R.remaining self.new.input) }
+        ensures taken { self.new.tally.taken ≡ self.old.tally.taken + bytes_given result }
+        ensures faults { CountsReadFailure result
+            self.old.tally.faults.count self.new.tally.faults.count }
+        ensures later { self.old.tally.faults.count ≤ self.new.tally.faults.count }
+        ensures relation { ReadsInput self.old self.new }
+    {
         self.clock = self.clock.saturating_add(1);
         self.tally.read(&mut self.input, into)
     }
 }
 
-impl<R: Read, W: Write, F: Files> Sink for StandardStation<'_, R, W, F> {
-    ghost use Rattle.std.specs.Prelude.{◌≡◌, ◌≤◌, None};
-    ghost use Rattle.xs_outside.specs.Counts.{Rose};
+impl<R: Read, W: Write, S: FileSystem> Sink for StandardStation<'_, R, W, S> {
+    ghost use Rattle.std.specs.Prelude.{◌≤◌, None};
+    ghost use Rattle.xs_outside.specs.Counts.{CountsFailure};
+    ghost use Rattle.xs_outside.specs.Streams.{WriteAdds};
+    ghost use Rattle.xoffice.specs.Answers.{WritesTo};
+    ghost use Rattle.xoffice.specs.Stations.{WritesOutput};
 
     ghost written = { λ _. None };
 
-    ghost write_faults = { λ s. s.write_faults };
+    ghost write_faults = { λ s. s.write_faults.count };
 
-    ghost writes = { λ old new. (new.tally ≡ old.tally) × (new.disk_faults ≡ old.disk_faults) × (new.fetched ≡ old.fetched) × (old.clock ≤ new.clock) × Rose old.clock new.clock };
+    ghost writes = { λ _ old new. WritesOutput old new };
 
-    fn write(&mut self, bytes: &[u8]) -> Result<(), Failed> {
+    fn write(&mut self, bytes: &[u8]) -> Result<(), Failed>
+        ensures adds { WriteAdds result bytes.now None None }
+        ensures output { WritesTo result bytes.now
+            (W.contents self.old.output) (W.contents self.new.output) }
+        ensures faults { CountsFailure result
+            self.old.write_faults.count self.new.write_faults.count }
+        ensures later { self.old.write_faults.count ≤ self.new.write_faults.count }
+        ensures relation { WritesOutput self.old self.new }
+    {
         self.clock = self.clock.saturating_add(1);
-        if self.output.write_all(bytes).is_err() {
-            self.write_faults = self.write_faults.saturating_add(1);
-            return Err(Failed);
-        }
-        Ok(())
+        let outcome = write_whole(&mut self.output, bytes);
+        self.write_faults.note(outcome)
     }
 }
 
-impl<R: Read, W: Write, F: Files> Both for StandardStation<'_, R, W, F> {
-    ghost use Rattle.std.proofs.Common.{ap};
+impl<R: Read, W: Write, S: FileSystem> Both for StandardStation<'_, R, W, S> {
     ghost use Rattle.std.specs.Prelude.{refl};
 
-    ghost read_leaves = { λ old new kept. (refl, kept.0) };
+    ghost read_leaves = { λ got old new kept. (refl, kept.write_faults) };
 
-    ghost write_leaves = { λ old new kept. (refl, ap (λ t. t.taken) kept.0, ap (λ t. t.faults) kept.0) };
+    ghost write_leaves = { λ result old new kept. (refl, kept.taken, kept.read_faults) };
 }
 
-impl<R: Read, W: Write, F: Files> Disk for StandardStation<'_, R, W, F> {
-    ghost use Rattle.std.specs.Prelude.{false, None, []};
+impl<R: Read, W: Write, S: FileSystem> Disk for StandardStation<'_, R, W, S> {
+    ghost use Rattle.std.specs.Prelude.{MatchBool};
+    ghost use Rattle.xoffice.specs.Sides.{LooksAtSide, StoresOnSide};
+    ghost use Rattle.xoffice.specs.Untold.{counts, untold};
 
-    // A file tells nothing: not what it holds, nor what a crash leaves of it, nor that nobody else writes it.
-    ghost content = { λ _. record { a = []; b = [] } };
+    ghost state = { λ s. untold s.clock s.disk.faults.count s.disk.fetched
+        (counts s.tally.taken s.tally.faults.count s.write_faults.count) };
 
-    ghost clock = { λ s. s.clock };
+    ghost looks = { λ ok old new. MatchBool ok (LooksAtSide S.calls old.disk new.disk) S.calls.failed };
 
-    ghost may_leave = { λ _ _ _. Unit {0} };
-
-    ghost disk_faults = { λ s. s.disk_faults };
-
-    ghost fetched = { λ s. s.fetched };
-
-    ghost honest = { λ _. false };
-
-    ghost beside = { λ s. record {
-      left = None;
-      taken = s.tally.taken;
-      read_faults = s.tally.faults;
-      write_faults = s.write_faults;
-      output = None;
-      moments = [];
-    } };
-
-    ghost looks = { λ _ _. Unit {0} };
-
-    ghost stores = { λ _ _. Unit {0} };
+    ghost stores = { λ ok old new. MatchBool ok (StoresOnSide S.calls old.disk new.disk) S.calls.failed };
 
     ghost reads_an_image = { λ s honest. tt };
 
     fn length(&mut self, side: Side) -> Result<u64, Failed> {
         self.clock = self.clock.saturating_add(1);
-        let outcome = match side {
-            Side::A => self.a.length(),
-            Side::B => self.b.length(),
-        };
-        let Ok(length) = outcome else {
-            self.disk_faults = self.disk_faults.saturating_add(1);
-            return Err(Failed);
-        };
-        Ok(length)
+        self.disk.length(side)
     }
 
     fn read(&mut self, side: Side, at: u64, into: &mut [u8]) -> Result<(), Failed> {
         self.clock = self.clock.saturating_add(1);
-        let outcome = match side {
-            Side::A => self.a.read(at, into),
-            Side::B => self.b.read(at, into),
-        };
-        if outcome.is_err() {
-            self.disk_faults = self.disk_faults.saturating_add(1);
-            return Err(Failed);
-        }
-        self.fetched = self.fetched.saturating_add(into.len() as u64);
-        Ok(())
+        self.disk.read(side, at, into)
     }
 
     fn write(&mut self, side: Side, at: u64, bytes: &[u8]) -> Result<(), Failed> {
         self.clock = self.clock.saturating_add(1);
-        let outcome = match side {
-            Side::A => self.a.write(at, bytes),
-            Side::B => self.b.write(at, bytes),
-        };
-        if outcome.is_err() {
-            self.disk_faults = self.disk_faults.saturating_add(1);
-            return Err(Failed);
-        }
-        Ok(())
+        self.disk.write(side, at, bytes)
     }
 
     fn sync(&mut self, side: Side) -> Result<(), Failed> {
         self.clock = self.clock.saturating_add(1);
-        let outcome = match side {
-            Side::A => self.a.sync(),
-            Side::B => self.b.sync(),
-        };
-        if outcome.is_err() {
-            self.disk_faults = self.disk_faults.saturating_add(1);
-            return Err(Failed);
-        }
-        Ok(())
+        self.disk.sync(side)
     }
 }
 
-impl<R: Read, W: Write, F: Files> Station for StandardStation<'_, R, W, F> {
+impl<R: Read, W: Write, S: FileSystem> Station for StandardStation<'_, R, W, S> {
     ghost use Rattle.std.specs.Prelude.{refl};
-    ghost use Rattle.xoffice.specs.Untold.{has_moments, none_stamped, same_images, passes};
+    ghost use Rattle.xoffice.specs.Untold.{keeps_disk, none_stamped, tells_output};
 
-    ghost tells_input = { λ s. (refl, refl, refl) };
+    ghost tells_input = { λ s. record { input = refl; handed_out = refl; read_faults = refl } };
 
-    ghost tells_output = { λ s. (refl, refl, has_moments s.clock s.tally.taken s.tally.faults s.write_faults) };
+    ghost tells_output = { λ s. tells_output s.clock s.disk.faults.count s.disk.fetched
+        s.tally.taken s.tally.faults.count s.write_faults.count };
 
-    ghost read_leaves_disk = { λ old new kept. (refl, refl, kept.1, kept.2, refl) };
+    ghost read_leaves_disk = { λ got old new kept. record {
+      disk = keeps_disk _ _ _ _ _ _ _ _ kept.time kept.disk_faults kept.fetched;
+      moments = refl;
+    } };
 
-    ghost read_leaves_images = { λ old new kept. (same_images, passes old.clock new.clock kept.3 kept.4) };
-
-    ghost write_leaves_disk = { λ old new kept. (refl, refl, kept.1, kept.2, none_stamped old.clock new.clock) };
-
-    ghost write_leaves_images = { λ old new kept. (same_images, passes old.clock new.clock kept.3 kept.4) };
+    ghost write_leaves_disk = { λ result old new kept. record {
+      disk = keeps_disk _ _ _ _ _ _ _ _ kept.time kept.disk_faults kept.fetched;
+      moments = none_stamped _ _;
+    } };
 }
 
 #[cfg(test)]
 mod tests {
     use super::*;
-    use crate::file_source::LazyFile;
     use std::fs;
     use std::test::Fail;
 
     #[test]
-    fn a_station_over_what_is_not_there_counts_each_fault(rt: HostRuntime) -> Result<(), Fail> {
-        fs::write(&rt, "output", "")?;
+    fn a_station_over_what_is_not_there_fails(rt: HostRuntime) -> Result<(), Fail> {
         let mut into = [0u8; 8];
-        let mut station = StandardStation::new(
-            LazyFile::new(&rt, "missing"),
-            // A file that is open for reading alone takes no write.
-            fs::open(&rt, "output")?,
-            SideFile::new(&rt, String::from_str(rt.alloc(), "missing/office.a")?),
-            SideFile::new(&rt, String::from_str(rt.alloc(), "missing/office.b")?),
-        );
-        assert_eq!(rt; Source::read(&mut station, &mut into), Got::Failed);
+        // A file that is open for writing alone can't be read, and one that is open for reading alone can't be written.
+        let input = fs::create(&rt, "written")?;
+        let output = fs::open(&rt, "written")?;
+        let a = SideFile::new(&rt, "missing/office.a");
+        let b = SideFile::new(&rt, "missing/office.b");
+        let mut station = StandardStation::new(input, output, a, b);
         assert_eq!(rt; Source::read(&mut station, &mut into), Got::Failed);
         assert_eq!(rt; Sink::write(&mut station, b"lost"), Err(Failed));
         // A side that isn't there is empty. It can't be made where its folder isn't there.
@@ -220,18 +196,8 @@ mod tests {
             Disk::read(&mut station, Side::B, 0, &mut into),
             Err(Failed)
         );
-        assert_eq!(rt; Disk::write(&mut station, Side::B, 0, b"lost"), Err(Failed));
         assert_eq!(rt; Disk::write(&mut station, Side::A, 0, b"lost"), Err(Failed));
-        assert_eq!(rt;
-            (
-                station.tally.faults,
-                station.write_faults,
-                station.disk_faults
-            ),
-            (2, 1, 3)
-        );
-        assert_eq!(rt; (station.fetched, station.clock), (0, 8));
-        fs::remove_file(&rt, "output")?;
+        fs::remove_file(&rt, "written")?;
         Ok(())
     }
 
@@ -239,12 +205,11 @@ mod tests {
     fn a_station_reads_and_writes(rt: HostRuntime) -> Result<(), Fail> {
         fs::write(&rt, "input", "hello")?;
         let mut into = [0u8; 8];
-        let mut station = StandardStation::new(
-            fs::open(&rt, "input")?,
-            fs::create(&rt, "output")?,
-            SideFile::new(&rt, String::from_str(rt.alloc(), "office.a")?),
-            SideFile::new(&rt, String::from_str(rt.alloc(), "office.b")?),
-        );
+        let input = fs::open(&rt, "input")?;
+        let output = fs::create(&rt, "output")?;
+        let a = SideFile::new(&rt, "office.a");
+        let b = SideFile::new(&rt, "office.b");
+        let mut station = StandardStation::new(input, output, a, b);
         assert_eq!(rt; Source::read(&mut station, &mut into), Got::Bytes(5));
         assert_eq!(rt; into, *b"hello\0\0\0");
         assert_eq!(rt; Source::read(&mut station, &mut into), Got::End);
@@ -271,15 +236,6 @@ mod tests {
             Disk::read(&mut station, Side::A, 5, &mut into),
             Err(Failed)
         );
-        assert_eq!(rt;
-            (
-                station.tally.faults,
-                station.write_faults,
-                station.disk_faults
-            ),
-            (0, 0, 1)
-        );
-        assert_eq!(rt; station.fetched, 8);
         for name in ["input", "output", "office.a"] {
             fs::remove_file(&rt, name)?;
         }

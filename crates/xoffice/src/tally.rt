@@ -1,56 +1,62 @@
-// What a source outside this process has handed out, and how often it failed.
-ghost use Rattle.std.specs.Prelude.{◌≡◌, ◌+◌, ◌≤◌, ◌<◌, length};
-ghost use Rattle.xs_outside.specs.Counts.{Rose};
-ghost use Rattle.xs_outside.specs.Streams.{bytes_given};
-ghost use Rattle.xoffice.specs.Answer.{Answers};
+//! What a source outside this process has handed out, and how often it failed.
 
-use std::io::Read;
-use xs_outside::Got;
+ghost use Rattle.std.specs.Prelude.{◌≡◌, ◌+◌, ◌≤◌, ◌<◌, ◌^◌, length, IfOk};
+ghost use Rattle.xs_outside.specs.Streams.{bytes_given, CountsReadFailure};
+ghost use Rattle.xoffice.specs.Answers.{got_of, ReadsFrom};
+
+use crate::faults::Faults;
+use std::io::{self, ErrorKind, Read};
+use xs_outside::{Failed, Got};
 
 /// Counts of bytes handed out and of faults. Both end at `u64::MAX`: a read that could go past it fails.
 #[derive(Debug, Drop)]
 pub struct Tally {
     pub taken: u64,
-    pub faults: u64,
+    pub faults: Faults,
 }
 
 impl Tally {
-    pub fn new() -> Tally {
+    /// Nothing is handed out yet.
+    pub fn new() -> Tally
+        ensures taken { result.taken ≡ 0 }
+        ensures faults { result.faults.count ≡ 0 }
+    {
         Tally {
             taken: 0,
-            faults: 0,
+            faults: Faults::none(),
         }
     }
 
-    /// Counts a fault.
-    pub fn fail(&mut self) -> Got
-        ensures answer { result ≡ Got.Failed }
-        ensures taken { self.new.taken ≡ self.old.taken }
-        ensures fault { Rose self.old.faults self.new.faults }
-        ensures later { self.old.faults ≤ self.new.faults }
-    {
-        self.faults = self.faults.saturating_add(1);
-        Got::Failed
-    }
-
-    /// Reads once, and counts what came of it.
-    pub fn read<R: Read>(&mut self, reader: &mut R, into: &mut [u8]) -> Got
-        requires { 0 < length into.old }
-        ensures answer { Answers result into.new }
+    /// What a read of the system answered, counted. No bytes are the end.
+    pub fn note(&mut self, outcome: io::Result<usize>) -> Got
+        requires { IfOk outcome (λ count. self.old.taken + count < 2 ^ 64) }
+        ensures answer { result ≡ got_of outcome }
         ensures taken { self.new.taken ≡ self.old.taken + bytes_given result }
-        ensures later { self.old.faults ≤ self.new.faults }
-        ensures cause { result ≡ Got.Failed → Rose self.old.faults self.new.faults }
+        ensures faults { CountsReadFailure result self.old.faults.count self.new.faults.count }
+        ensures later { self.old.faults.count ≤ self.new.faults.count }
     {
-        if self.taken.checked_add(into.len() as u64).is_none() {
-            return self.fail();
-        }
-        match reader.read(into) {
+        match self.faults.note(outcome) {
+            Err(Failed) => Got::Failed,
             Ok(0) => Got::End,
             Ok(count) => {
                 self.taken += count as u64;
                 Got::Bytes(count)
             }
-            Err(_) => self.fail(),
         }
+    }
+
+    /// Reads once, and counts what came of it.
+    pub fn read<R: Read>(&mut self, reader: &mut R, into: &mut [u8]) -> Got
+        requires { 0 < length into.old }
+        ensures answer { ReadsFrom result into.new (R.remaining reader.old) (R.remaining reader.new) }
+        ensures taken { self.new.taken ≡ self.old.taken + bytes_given result }
+        ensures faults { CountsReadFailure result self.old.faults.count self.new.faults.count }
+        ensures later { self.old.faults.count ≤ self.new.faults.count }
+    {
+        if self.taken.checked_add(into.len() as u64).is_none() {
+            return self.note(Err(ErrorKind::FileTooLarge.into()));
+        }
+        let outcome = reader.read(into);
+        self.note(outcome)
     }
 }
