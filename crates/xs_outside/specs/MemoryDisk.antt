@@ -1,5 +1,5 @@
 -- What a disk in memory tells, and what its calls do.
-use Rattle.std.specs.Prelude.{◌≡◌, ◌↔◌, ℕ, Bool, true, not, List, IsTrue}
+use Rattle.std.specs.Prelude.{◌≡◌, ℕ, Bool, true, not, List, IsTrue}
 use Rattle.xs_outside.specs.Beside.{nothing}
 use Rattle.xs_outside.specs.Disk.{DiskState, IsSettled, SameImages}
 use Rattle.xs_outside.specs.DiskHistory.{sides_of_history, MayLeave}
