@@ -2,8 +2,9 @@
 use Rattle.std.specs.Prelude.{◌≡◌, ◌⊎◌, ℕ, [], true, Ok, None, Some}
 use Rattle.xs_outside.specs.declared.Side.{Side}
 use Rattle.xs_outside.specs.declared.Side.TheVariants.{A, B}
+use Rattle.xs_outside.specs.Disk.{other}
 use Rattle.xoffice.specs.Calls.{Calls, Transfer}
-use Rattle.xoffice.specs.Files.{IfFound, IsMissing}
+use Rattle.xoffice.specs.Files.{Finds, IfFound, IsMissing}
 use Rattle.xoffice.specs.declared.file_disk.FileDisk.{FileDisk}
 use Rattle.xoffice.specs.declared.side_file.SideFile.{SideFile}
 use Rattle.xoffice.specs.declared.file_system.Access.TheVariants.{Update, Create}
@@ -15,9 +16,14 @@ OfFile calls side there missing = elim side.file.file [
   | Some file ↦ there file
 ]
 
--- the length of a side, which is 0 where there is no file
-abbrev pub IsLength : {S F : Type 0} → Calls F → SideFile S F → ℕ → Type 0
-IsLength calls side n = OfFile calls side (λ file. calls.measures file (Ok n)) (n ≡ 0)
+-- the file at the side's path, which was open or is opened now
+abbrev pub IsItsFile : {S F : Type 0} → Calls F → SideFile S F → F → Type 0
+IsItsFile calls old file = Finds (calls.opens Update old.file.path.now) old.file.file file
+
+-- the file that was found has this length; where there is none, it is 0
+abbrev pub IsLength : {S F : Type 0} → Calls F → SideFile S F → SideFile S F → ℕ → Type 0
+IsLength calls old new n =
+    OfFile calls new (λ file. IsItsFile calls old file × calls.measures file (Ok n)) (n ≡ 0)
 
 -- the file that was found gave these bytes; where there is none, there are none
 abbrev pub GivesBytes : {S F : Type 0} → Calls F → Transfer → SideFile S F → SideFile S F → Type 0
@@ -32,10 +38,14 @@ TakesBytes calls transfer old new = OfFile calls new
     (λ found. calls.writes transfer (Ok tt) found file) old.file.file)
     ⊥
 
--- the file was synced, and its entry now or before; or there is none
+-- the entry of the file was synced, now or before
+abbrev pub HasEntrySynced : {S F : Type 0} → Calls F → SideFile S F → Type 0
+HasEntrySynced calls old = (old.is_entry_synced ≡ true) ⊎ calls.syncs_entry old.file.path.now (Ok tt)
+
+-- the file that was found was synced, and its entry; or there is none
 abbrev pub IsSynced : {S F : Type 0} → Calls F → SideFile S F → SideFile S F → Type 0
 IsSynced calls old new = OfFile calls new
-    (λ file. calls.syncs file (Ok tt) × ((old.is_entry_synced ≡ true) ⊎ calls.syncs_entry old.file.path.now (Ok tt)))
+    (λ file. IsItsFile calls old file × calls.syncs file (Ok tt) × HasEntrySynced calls old)
     (Unit {0})
 
 -- one of the two sides
@@ -43,12 +53,18 @@ abbrev pub side_of : {S F : Type 0} → Side → FileDisk S F → SideFile S F
 side_of A disk = disk.a
 side_of B disk = disk.b
 
+-- nothing of the other side changed
+abbrev pub KeepsOther : {S F : Type 0} → Side → FileDisk S F → FileDisk S F → Type 0
+KeepsOther side old new = side_of (other side) new ≡ side_of (other side) old
+
 -- a length or a read of one of the sides answered
 abbrev pub LooksAtSide : {S F : Type 0} → Calls F → FileDisk S F → FileDisk S F → Type 0
-LooksAtSide calls old new = (side : Side) × (((n : ℕ) × IsLength calls (side_of side new) n)
+LooksAtSide calls old new = (side : Side) × KeepsOther side old new
+    × (((n : ℕ) × IsLength calls (side_of side old) (side_of side new) n)
     ⊎ ((transfer : Transfer) × GivesBytes calls transfer (side_of side old) (side_of side new)))
 
 -- a write or a sync of one of the sides answered
 abbrev pub StoresOnSide : {S F : Type 0} → Calls F → FileDisk S F → FileDisk S F → Type 0
-StoresOnSide calls old new = (side : Side) × (((transfer : Transfer) × TakesBytes calls transfer (side_of side old) (side_of side new))
+StoresOnSide calls old new = (side : Side) × KeepsOther side old new
+    × (((transfer : Transfer) × TakesBytes calls transfer (side_of side old) (side_of side new))
     ⊎ IsSynced calls (side_of side old) (side_of side new))

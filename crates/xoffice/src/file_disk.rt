@@ -18,12 +18,12 @@ pub struct FileDisk<'a, S: FileSystem> {
 }
 
 impl<'a, S: FileSystem> FileDisk<'a, S> {
-    ghost use Rattle.xoffice.specs.Sides.{IsLength, IsSynced, GivesBytes, TakesBytes, side_of};
+    ghost use Rattle.xoffice.specs.Sides.{IsLength, IsSynced, GivesBytes, KeepsOther, TakesBytes, side_of};
 
     /// Opens nothing yet.
     pub fn new(a: SideFile<'a, S>, b: SideFile<'a, S>) -> FileDisk<'a, S>
-        ensures a { result.a.file.path.now ≡ a.entry.file.path.now }
-        ensures b { result.b.file.path.now ≡ b.entry.file.path.now }
+        ensures a { result.a ≡ a.entry }
+        ensures b { result.b ≡ b.entry }
         ensures faults { result.faults.count ≡ 0 }
         ensures fetched { result.fetched ≡ 0 }
     {
@@ -37,8 +37,10 @@ impl<'a, S: FileSystem> FileDisk<'a, S> {
 
     /// The number of bytes of a side.
     pub fn length(&mut self, side: Side) -> Result<u64, Failed>
-        ensures told { IfOk result (IsLength S.calls (side_of side self.new)) }
+        ensures told { IfOk result
+            (IsLength S.calls (side_of side self.old) (side_of side self.new)) }
         ensures failed { OnErr result S.calls.failed }
+        ensures other { KeepsOther side self.old self.new }
         ensures faults { CountsFailure result self.old.faults.count self.new.faults.count }
         ensures later { self.old.faults.count ≤ self.new.faults.count }
         ensures fetched { self.new.fetched ≡ self.old.fetched }
@@ -55,6 +57,7 @@ impl<'a, S: FileSystem> FileDisk<'a, S> {
         ensures gives { OnOk result (GivesBytes S.calls (record { at = at; bytes = into.new })
             (side_of side self.old) (side_of side self.new)) }
         ensures failed { OnErr result S.calls.failed }
+        ensures other { KeepsOther side self.old self.new }
         ensures faults { CountsFailure result self.old.faults.count self.new.faults.count }
         ensures later { self.old.faults.count ≤ self.new.faults.count }
         ensures fetched { MatchResult result
@@ -75,6 +78,7 @@ impl<'a, S: FileSystem> FileDisk<'a, S> {
         ensures takes { OnOk result (TakesBytes S.calls (record { at = at; bytes = bytes.now })
             (side_of side self.old) (side_of side self.new)) }
         ensures failed { OnErr result S.calls.failed }
+        ensures other { KeepsOther side self.old self.new }
         ensures faults { CountsFailure result self.old.faults.count self.new.faults.count }
         ensures later { self.old.faults.count ≤ self.new.faults.count }
         ensures fetched { self.new.fetched ≡ self.old.fetched }
@@ -91,6 +95,7 @@ impl<'a, S: FileSystem> FileDisk<'a, S> {
         ensures synced { OnOk result
             (IsSynced S.calls (side_of side self.old) (side_of side self.new)) }
         ensures failed { OnErr result S.calls.failed }
+        ensures other { KeepsOther side self.old self.new }
         ensures faults { CountsFailure result self.old.faults.count self.new.faults.count }
         ensures later { self.old.faults.count ≤ self.new.faults.count }
         ensures fetched { self.new.fetched ≡ self.old.fetched }

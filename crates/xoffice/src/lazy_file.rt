@@ -27,7 +27,7 @@ impl<'a, S: FileSystem> LazyFile<'a, S> {
         }
     }
 
-    /// TakesBytes the open file out, which is opened now where it isn't. `keep` puts it back.
+    /// Takes the open file out, which is opened now where it isn't. `keep` puts it back.
     pub fn take(&mut self, access: Access) -> io::Result<S::File>
         ensures found { IfOk result (Finds (S.calls.opens access self.old.path.now) self.old.file) }
         ensures refused { IfErr result (λ error.

@@ -17,7 +17,7 @@ pub struct SideFile<'a, S: FileSystem> {
 }
 
 impl<'a, S: FileSystem> SideFile<'a, S> {
-    ghost use Rattle.xoffice.specs.Sides.{IsLength, IsSynced, GivesBytes, TakesBytes};
+    ghost use Rattle.xoffice.specs.Sides.{HasEntrySynced, IsLength, IsSynced, GivesBytes, TakesBytes};
 
     /// Opens nothing yet.
     pub fn new(file_system: &'a S, path: &'a str) -> SideFile<'a, S>
@@ -33,8 +33,9 @@ impl<'a, S: FileSystem> SideFile<'a, S> {
 
     /// The number of bytes.
     pub fn length(&mut self) -> io::Result<u64>
-        ensures told { IfOk result (IsLength S.calls self.new) }
+        ensures told { IfOk result (IsLength S.calls self.old self.new) }
         ensures failed { OnErr result S.calls.failed }
+        ensures path { self.new.file.path.now ≡ self.old.file.path.now }
         ensures entry { self.new.is_entry_synced ≡ self.old.is_entry_synced }
     {
         let Some(file) = self.take()? else {
@@ -50,6 +51,7 @@ impl<'a, S: FileSystem> SideFile<'a, S> {
         ensures gives { OnOk result
             (GivesBytes S.calls (record { at = at; bytes = into.new }) self.old self.new) }
         ensures failed { OnErr result S.calls.failed }
+        ensures path { self.new.file.path.now ≡ self.old.file.path.now }
         ensures entry { self.new.is_entry_synced ≡ self.old.is_entry_synced }
     {
         let mut file = match self.file.take(Access::Update) {
@@ -67,6 +69,7 @@ impl<'a, S: FileSystem> SideFile<'a, S> {
         ensures takes { OnOk result
             (TakesBytes S.calls (record { at = at; bytes = bytes.now }) self.old self.new) }
         ensures failed { OnErr result S.calls.failed }
+        ensures path { self.new.file.path.now ≡ self.old.file.path.now }
         ensures entry { self.new.is_entry_synced ≡ self.old.is_entry_synced }
     {
         let mut file = match self.take()? {
@@ -83,8 +86,8 @@ impl<'a, S: FileSystem> SideFile<'a, S> {
     pub fn sync(&mut self) -> io::Result<()>
         ensures synced { OnOk result (IsSynced S.calls self.old self.new) }
         ensures failed { OnErr result S.calls.failed }
-        ensures entry { self.new.is_entry_synced ≡ true → (self.old.is_entry_synced ≡ true)
-            ⊎ S.calls.syncs_entry self.old.file.path.now (Ok tt) }
+        ensures path { self.new.file.path.now ≡ self.old.file.path.now }
+        ensures entry { self.new.is_entry_synced ≡ true → HasEntrySynced S.calls self.old }
     {
         let Some(file) = self.take()? else {
             return Ok(());
@@ -99,7 +102,7 @@ impl<'a, S: FileSystem> SideFile<'a, S> {
         Ok(())
     }
 
-    /// TakesBytes out the open file, or the file that is opened now; none where there is no such file.
+    /// Takes out the open file, or the file that is opened now; none where there is no such file.
     fn take(&mut self) -> io::Result<Option<S::File>>
         ensures found { IfOk result (λ found. IfSome found
             (Finds (S.calls.opens Update self.old.file.path.now) self.old.file.file)) }

@@ -31,8 +31,8 @@ impl<'a, R: Read, W: Write, S: FileSystem> StandardStation<'a, R, W, S> {
         a: SideFile<'a, S>,
         b: SideFile<'a, S>,
     ) -> StandardStation<'a, R, W, S>
-        ensures a { result.disk.a.file.path.now ≡ a.entry.file.path.now }
-        ensures b { result.disk.b.file.path.now ≡ b.entry.file.path.now }
+        ensures a { result.disk.a ≡ a.entry }
+        ensures b { result.disk.b ≡ b.entry }
         ensures clock { result.clock ≡ 0 }
         ensures taken { result.tally.taken ≡ 0 }
         ensures read_faults { result.tally.faults.count ≡ 0 }
@@ -55,7 +55,7 @@ impl<R: Read, W: Write, S: FileSystem> Source for StandardStation<'_, R, W, S> {
     ghost use Rattle.std.specs.Prelude.{◌≡◌, ◌+◌, ◌<◌, ◌≤◌, length, None};
     ghost use Rattle.xs_outside.specs.Streams.{bytes_given, CountsReadFailure, ReadGives};
     ghost use Rattle.xoffice.specs.Answers.{ReadsFrom};
-    ghost use Rattle.xoffice.specs.Stations.{ReadsInput};
+    ghost use Rattle.xoffice.specs.Stations.{LeavesOutputAndDisk};
 
     ghost left = { λ _. None };
 
@@ -63,7 +63,7 @@ impl<R: Read, W: Write, S: FileSystem> Source for StandardStation<'_, R, W, S> {
 
     ghost read_faults = { λ s. s.tally.faults.count };
 
-    ghost reads = { λ _ old new. ReadsInput old new };
+    ghost reads = { λ _ old new. LeavesOutputAndDisk old new };
 
     fn read(&mut self, into: &mut [u8]) -> Got
         requires { 0 < length into.old }
@@ -74,7 +74,7 @@ impl<R: Read, W: Write, S: FileSystem> Source for StandardStation<'_, R, W, S> {
         ensures faults { CountsReadFailure result
             self.old.tally.faults.count self.new.tally.faults.count }
         ensures later { self.old.tally.faults.count ≤ self.new.tally.faults.count }
-        ensures relation { ReadsInput self.old self.new }
+        ensures relation { LeavesOutputAndDisk self.old self.new }
     {
         self.clock = self.clock.saturating_add(1);
         self.tally.read(&mut self.input, into)
@@ -86,13 +86,13 @@ impl<R: Read, W: Write, S: FileSystem> Sink for StandardStation<'_, R, W, S> {
     ghost use Rattle.xs_outside.specs.Counts.{CountsFailure};
     ghost use Rattle.xs_outside.specs.Streams.{WriteAdds};
     ghost use Rattle.xoffice.specs.Answers.{WritesTo};
-    ghost use Rattle.xoffice.specs.Stations.{WritesOutput};
+    ghost use Rattle.xoffice.specs.Stations.{LeavesInputAndDisk};
 
     ghost written = { λ _. None };
 
     ghost write_faults = { λ s. s.write_faults.count };
 
-    ghost writes = { λ _ old new. WritesOutput old new };
+    ghost writes = { λ _ old new. LeavesInputAndDisk old new };
 
     fn write(&mut self, bytes: &[u8]) -> Result<(), Failed>
         ensures adds { WriteAdds result bytes.now None None }
@@ -101,7 +101,7 @@ impl<R: Read, W: Write, S: FileSystem> Sink for StandardStation<'_, R, W, S> {
         ensures faults { CountsFailure result
             self.old.write_faults.count self.new.write_faults.count }
         ensures later { self.old.write_faults.count ≤ self.new.write_faults.count }
-        ensures relation { WritesOutput self.old self.new }
+        ensures relation { LeavesInputAndDisk self.old self.new }
     {
         self.clock = self.clock.saturating_add(1);
         let outcome = write_whole(&mut self.output, bytes);

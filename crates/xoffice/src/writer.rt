@@ -8,6 +8,8 @@ use std::io::{self, ErrorKind, Write};
 pub fn write_whole<W: Write>(writer: &mut W, bytes: &[u8]) -> io::Result<()>
     ensures { WritesTo result bytes.now (W.contents writer.old) (W.contents writer.new) }
 {
+    // `write_all` tells nothing of what went out before an error. The bound lets the loop end for a writer that
+    // is interrupted again and again.
     let mut out = 0;
     for _ in 0..u64::MAX {
         if out == bytes.len() {

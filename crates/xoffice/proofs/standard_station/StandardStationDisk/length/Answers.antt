@@ -7,5 +7,5 @@ pub returns-clause-relation : goal.returns-clause-relation
 returns-clause-relation g c =
     let calls = g.S.FileSystem.calls in
     let disk = c.length.new.self in
-    by_answer c.length.result (IsLength calls (side_of c.args.side disk)) calls.failed (LooksAtSide calls c.args.self.now.disk disk)
-    c.length.ensures.told c.length.ensures.failed (λ n told. (c.args.side, inl (n, told)))
+    by_answer c.length.result (IsLength calls (side_of c.args.side c.args.self.now.disk) (side_of c.args.side disk)) calls.failed (LooksAtSide calls c.args.self.now.disk disk)
+    c.length.ensures.told c.length.ensures.failed (λ n told. (c.args.side, c.length.ensures.other, inl (n, told)))

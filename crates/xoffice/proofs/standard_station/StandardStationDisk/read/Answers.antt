@@ -11,4 +11,4 @@ returns-clause-relation g c =
     let new = c.read.new.self in
     let transfer : Transfer = record { at = c.args.at; bytes = c.read.new.into } in
     by_answer c.read.result (λ _. GivesBytes calls transfer (side_of c.args.side old) (side_of c.args.side new)) calls.failed (LooksAtSide calls old new)
-    c.read.ensures.gives c.read.ensures.failed (λ _ gives. (c.args.side, inr (transfer, gives)))
+    c.read.ensures.gives c.read.ensures.failed (λ _ gives. (c.args.side, c.read.ensures.other, inr (transfer, gives)))

@@ -11,4 +11,4 @@ returns-clause-relation g c =
     let new = c.write.new.self in
     let transfer : Transfer = record { at = c.args.at; bytes = c.args.bytes.now } in
     by_answer c.write.result (λ _. TakesBytes calls transfer (side_of c.args.side old) (side_of c.args.side new)) calls.failed (StoresOnSide calls old new)
-    c.write.ensures.takes c.write.ensures.failed (λ _ takes. (c.args.side, inl (transfer, takes)))
+    c.write.ensures.takes c.write.ensures.failed (λ _ takes. (c.args.side, c.write.ensures.other, inl (transfer, takes)))
