@@ -1,5 +1,5 @@
 -- What a disk in memory tells, and what its calls do.
-use Rattle.std.specs.Prelude.{◌≡◌, ◌↔◌, ℕ, Bool, true, not, List, IsTrue}
+use Rattle.std.specs.Prelude.{◌≡◌, ℕ, Bool, true, not, List, IsTrue}
 use Rattle.xs_outside.specs.Beside.{nothing}
 use Rattle.xs_outside.specs.Disk.{DiskState, IsSettled, SameImages}
 use Rattle.xs_outside.specs.DiskHistory.{sides_of_history, MayLeave}
@@ -27,9 +27,9 @@ pub record IsFreshDisk (a b : List ℕ) (disk : DiskState) : Type 0 where
   pub faults : disk.faults ≡ 0
   pub fetched : disk.fetched ≡ 0
 
--- nothing was called yet, and these calls are to fail
-abbrev pub IsNewDisk : MemoryDisk → List ℕ → Type 0
-IsNewDisk disk fails = IsFresh disk.schedule fails
+-- its calls with these numbers are to fail, and none was counted yet
+abbrev pub DiskFailsAt : List ℕ → MemoryDisk → Type 0
+DiskFailsAt fails disk = IsFresh disk.schedule fails
 
 -- a length or a read fails where its number is listed, and only there
 pub record LooksAtDisk (ok : Bool) (old new : MemoryDisk) : Type 0 where

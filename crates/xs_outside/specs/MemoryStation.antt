@@ -47,9 +47,9 @@ LooksAtStation ok old new = LooksAtDisk ok old.disk new.disk
 abbrev pub StoresOnStation : Bool → MemoryStation → MemoryStation → Type 0
 StoresOnStation ok old new = StoresOnDisk ok old.disk new.disk
 
--- nothing was called yet, and these calls are to fail
-abbrev pub IsNewStation : MemoryStation → List ℕ → Type 0
-IsNewStation station fails = IsFresh station.disk.schedule fails
+-- its calls with these numbers are to fail, and none was counted yet
+abbrev pub StationFailsAt : List ℕ → MemoryStation → Type 0
+StationFailsAt fails station = IsFresh station.disk.schedule fails
 
 -- so many calls of the disk are left, and nothing else changed
 abbrev pub IsStoppedAfter : ℕ → MemoryStation → MemoryStation → Type 0

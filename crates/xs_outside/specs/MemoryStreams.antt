@@ -8,15 +8,15 @@ use Rattle.xs_outside.specs.declared.memory.streams.MemorySource.{MemorySource}
 use Rattle.xs_outside.specs.declared.streams.Failed.{Failed as Refusal}
 use Rattle.xs_outside.specs.declared.streams.Got.{Got}
 
--- nothing was called yet, and these calls are to fail
-abbrev pub IsNewSource : MemorySource → List ℕ → Type 0
-IsNewSource source fails = IsFresh source.schedule fails
+-- its calls with these numbers are to fail, and none was counted yet
+abbrev pub SourceFailsAt : List ℕ → MemorySource → Type 0
+SourceFailsAt fails source = IsFresh source.schedule fails
 
-abbrev pub IsNewSink : MemorySink → List ℕ → Type 0
-IsNewSink sink fails = IsFresh sink.schedule fails
+abbrev pub SinkFailsAt : List ℕ → MemorySink → Type 0
+SinkFailsAt fails sink = IsFresh sink.schedule fails
 
-abbrev pub IsNewLink : MemoryLink → List ℕ → Type 0
-IsNewLink link fails = IsFresh link.schedule fails
+abbrev pub LinkFailsAt : List ℕ → MemoryLink → Type 0
+LinkFailsAt fails link = IsFresh link.schedule fails
 
 -- a read of a source
 pub record ReadsSource (got : Got) (old new : MemorySource) : Type 0 where

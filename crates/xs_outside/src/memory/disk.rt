@@ -11,8 +11,8 @@ use std::alloc::AllocError;
 /// A disk in memory. It keeps all bytes that were ever written to it.
 #[derive(Debug, Drop)]
 pub struct MemoryDisk {
-    pub sides: DiskHistory,
-    pub schedule: Schedule,
+    pub(super) sides: DiskHistory,
+    pub(super) schedule: Schedule,
     faults: u64,
     fetched: u64,
 }
@@ -20,7 +20,7 @@ pub struct MemoryDisk {
 impl MemoryDisk {
     ghost use Rattle.xs_outside.specs.Counts.{saturating_next};
     ghost use Rattle.xs_outside.specs.Disk.{on};
-    ghost use Rattle.xs_outside.specs.MemoryDisk.{IsFreshDisk, IsNewDisk, state_of_disk};
+    ghost use Rattle.xs_outside.specs.MemoryDisk.{IsFreshDisk, DiskFailsAt, state_of_disk};
     ghost use Rattle.xs_outside.specs.Schedule.{is_due, Counted};
     ghost use Rattle.xs_outside.specs.Station.{KeepsDisk};
 
@@ -29,7 +29,7 @@ impl MemoryDisk {
     pub fn new(a: Vec<u8>, b: Vec<u8>, fails: Vec<u64>) -> Result<MemoryDisk, AllocError>
         ensures fresh { IfOk result (λ disk. IsFreshDisk a.items b.items
             (⟦<MemoryDisk as Disk>⟧.state disk)) }
-        ensures fails { IfOk result (λ disk. IsNewDisk disk fails.items) }
+        ensures fails { IfOk result (λ disk. DiskFailsAt fails.items disk) }
     {
         Ok(MemoryDisk {
             sides: DiskHistory::new(a, b)?,
@@ -48,7 +48,7 @@ impl MemoryDisk {
 
     /// Lets a call of a stream go by, which a station counts together with those of its disk, and
     /// tells whether it is to fail.
-    pub fn stream_call_fails(&mut self) -> bool
+    pub(super) fn stream_call_fails(&mut self) -> bool
         ensures due { result ≡ is_due self.old.schedule }
         ensures counted { Counted self.old.schedule self.new.schedule }
         ensures kept { KeepsDisk (state_of_disk self.old) (state_of_disk self.new) }

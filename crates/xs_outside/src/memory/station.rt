@@ -24,7 +24,7 @@ impl MemoryStation {
     ghost use Rattle.xs_outside.specs.Disk.{on, MayLeaveNow};
     ghost use Rattle.xs_outside.specs.DiskHistory.{sides_of_image};
     ghost use Rattle.xs_outside.specs.MemoryDisk.{IsFreshDisk};
-    ghost use Rattle.xs_outside.specs.MemoryStation.{images_of_station, IsNewStation, IsStoppedAfter};
+    ghost use Rattle.xs_outside.specs.MemoryStation.{images_of_station, StationFailsAt, IsStoppedAfter};
 
     /// A station with this input and no output, on a disk whose sides hold these bytes, nothing
     /// pending. The calls with these numbers fail, counted from 1 over calls of every kind.
@@ -43,7 +43,7 @@ impl MemoryStation {
             (⟦<MemoryStation as Sink>⟧.write_faults station)) }
         ensures disk { IfOk result (λ station. IsFreshDisk a.items b.items
             (⟦<MemoryStation as Disk>⟧.state station)) }
-        ensures fails { IfOk result (λ station. IsNewStation station fails.items) }
+        ensures fails { IfOk result (λ station. StationFailsAt fails.items station) }
     {
         Ok(MemoryStation {
             output: StampedOutput::new(*input.allocator()),

@@ -16,7 +16,7 @@ pub struct MemorySource {
 
 impl MemorySource {
     ghost use Rattle.xs_outside.specs.Buffers.{IsFreshInput};
-    ghost use Rattle.xs_outside.specs.MemoryStreams.{IsNewSource};
+    ghost use Rattle.xs_outside.specs.MemoryStreams.{SourceFailsAt};
 
     /// A source of these bytes, whose calls with these numbers fail, counted from 1.
     pub fn new(bytes: Vec<u8>, fails: Vec<u64>) -> Result<MemorySource, AllocError>
@@ -24,7 +24,7 @@ impl MemorySource {
             (⟦<MemorySource as Source>⟧.left source)
             (⟦<MemorySource as Source>⟧.taken source)
             (⟦<MemorySource as Source>⟧.read_faults source)) }
-        ensures fails { IfOk result (λ source. IsNewSource source fails.items) }
+        ensures fails { IfOk result (λ source. SourceFailsAt fails.items source) }
     {
         Ok(MemorySource {
             input: InputBuffer::new(bytes),
@@ -61,14 +61,14 @@ pub struct MemorySink {
 
 impl MemorySink {
     ghost use Rattle.xs_outside.specs.Buffers.{IsFreshOutput};
-    ghost use Rattle.xs_outside.specs.MemoryStreams.{IsNewSink};
+    ghost use Rattle.xs_outside.specs.MemoryStreams.{SinkFailsAt};
 
     /// An empty sink, whose calls with these numbers fail, counted from 1.
     pub fn new(fails: Vec<u64>) -> Result<MemorySink, AllocError>
         ensures output { IfOk result (λ sink. IsFreshOutput
             (⟦<MemorySink as Sink>⟧.written sink)
             (⟦<MemorySink as Sink>⟧.write_faults sink)) }
-        ensures fails { IfOk result (λ sink. IsNewSink sink fails.items) }
+        ensures fails { IfOk result (λ sink. SinkFailsAt fails.items sink) }
     {
         Ok(MemorySink {
             output: OutputBuffer::new(*fails.allocator()),
@@ -110,7 +110,7 @@ pub struct MemoryLink {
 
 impl MemoryLink {
     ghost use Rattle.xs_outside.specs.Buffers.{IsFreshInput, IsFreshOutput};
-    ghost use Rattle.xs_outside.specs.MemoryStreams.{IsNewLink};
+    ghost use Rattle.xs_outside.specs.MemoryStreams.{LinkFailsAt};
 
     /// A link with this input and no output, whose calls with these numbers fail, counted from 1.
     pub fn new(input: Vec<u8>, fails: Vec<u64>) -> Result<MemoryLink, AllocError>
@@ -121,7 +121,7 @@ impl MemoryLink {
         ensures output { IfOk result (λ link. IsFreshOutput
             (⟦<MemoryLink as Sink>⟧.written link)
             (⟦<MemoryLink as Sink>⟧.write_faults link)) }
-        ensures fails { IfOk result (λ link. IsNewLink link fails.items) }
+        ensures fails { IfOk result (λ link. LinkFailsAt fails.items link) }
     {
         Ok(MemoryLink {
             output: OutputBuffer::new(*fails.allocator()),
