@@ -6,7 +6,7 @@ use Rattle.node_tree.specs.declared.node.Kind.{Kind}
 use Rattle.node_tree.specs.declared.node.Kind.TheVariants.{Atomic, Compound, Parallel, Final, Shallow, Deep}
 use Rattle.node_tree.specs.declared.node.Node.{Node}
 use Rattle.node_tree.specs.Nodes.{IsTree, NamesNodes}
-use Rattle.step_sets.specs.Kinds.{IsHistoryKind}
+use Rattle.node_tree.specs.Kinds.{IsHistoryKind}
 use Rattle.step_sets.specs.Statechart.{HasDefault, IsParentKind, IsStatechart}
 use Rattle.step_sets.proofs.TreeLemmas.{child_inside, initial_child, kind_names}
 use Rattle.guard_eval.specs.declared.def.Def.{Def}

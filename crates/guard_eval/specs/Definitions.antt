@@ -9,7 +9,7 @@ use Rattle.node_tree.specs.declared.node.Kind.{Kind}
 use Rattle.node_tree.specs.declared.node.Kind.TheVariants.{Atomic, Compound, Parallel, Final, Shallow, Deep}
 use Rattle.node_tree.specs.declared.node.Node.{Node}
 use Rattle.node_tree.specs.Nodes.{IsBelow, IsChild}
-use Rattle.step_sets.specs.Kinds.{Nodes, kind_of, IsHistory}
+use Rattle.node_tree.specs.Kinds.{Nodes, kind_of, IsHistory}
 use Rattle.step_sets.specs.Statechart.{DoNotClash, HasDefault, IsParentKind}
 use Rattle.guard_eval.specs.declared.def.Def.{Def}
 use Rattle.guard_eval.specs.declared.def.Invocation.{Invocation}

@@ -2,7 +2,7 @@
 use Rattle.std.specs.Prelude.{◌≡◌, ◌<◌, ℕ, Some, length}
 use Rattle.node_tree.specs.declared.node.Kind.{Kind}
 use Rattle.node_tree.specs.declared.node.Kind.TheVariants.{Compound}
-use Rattle.step_sets.specs.Kinds.{kind_of}
+use Rattle.node_tree.specs.Kinds.{kind_of}
 use Rattle.step_sets.specs.Statechart.{HasDefault, IsStatechart}
 use Rattle.guard_eval.specs.declared.def.Def.{Def}
 use Rattle.guard_eval.specs.Definitions.{EachTransition, IsTransitionOf, IsWellFormed}
