@@ -1,0 +1,23 @@
+//! The records of an office and what they mean: requests and replies, letters, timers and work items,
+//! actors and what their steps give. `specs/` defines which states are valid, what an office decides on a
+//! request, and what a step changes; everything above is judged by these definitions.
+#![tactic(auto)]
+
+mod entry;
+mod limits;
+mod office;
+mod outcome;
+mod request;
+
+pub use entry::Entry;
+pub use limits::{
+    MAX_ACTIVE_ACTORS, MAX_CALLER, MAX_CALLERS, MAX_CONTEXT_TEXT, MAX_ENTRIES, MAX_LETTERS,
+    MAX_LINE, MAX_MOMENT, MAX_NAME, MAX_NESTING, MAX_NEXT_NUMBER, MAX_REPLIES, MAX_TIMERS,
+    MAX_TREE_LEVELS, MAX_VALUE_TEXT,
+};
+pub use office::{
+    ActorRecord, ActorRecords, Caller, Callers, Item, Kids, Letter, Letters, NameList, OfficeState,
+    Origin, Status, Timer, TimerList,
+};
+pub use outcome::{Effect, Effects, End, FaultName, Outcome, Own, Texts, To};
+pub use request::{Ask, Replies, Reply, Request, Word};
