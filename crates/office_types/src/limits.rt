@@ -5,7 +5,7 @@
 pub const MAX_LINE: usize = 65_536;
 
 /// An event, an input, an output or an error: bytes of compact text.
-pub const MAX_VALUE_TEXT: u64 = 4_096;
+pub const MAX_EVENT_TEXT: u64 = 4_096;
 
 /// A context: bytes of compact text.
 pub const MAX_CONTEXT_TEXT: u64 = 65_536;
@@ -34,6 +34,9 @@ pub const MAX_ENTRIES: u64 = 1_099_511_627_776;
 /// The next number of an actor, a letter or a timer, and the next one of an unnamed child: 2^62. That
 /// number itself is never given.
 pub const MAX_NEXT_NUMBER: u64 = 4_611_686_018_427_387_904;
+
+/// Microsteps of one step.
+pub const MAX_MICROSTEPS: usize = 1_000;
 
 /// Active actors, work items among them.
 pub const MAX_ACTIVE_ACTORS: u64 = 4_096;

@@ -61,11 +61,8 @@ pub enum Status {
     Stopped,
 }
 
-/// Names, each with the number of the actor that has it.
-pub type NameList = Items<(Text, u64)>;
-
-/// An actor's children, by their ids, in the order of its own part's children.
-pub type Kids = NameList;
+/// An actor's children: ids and numbers, in the order of its own part's children.
+pub type Kids = Items<(Text, u64)>;
 
 /// All that an office has of one actor. A machine actor has an own part, a work item its item.
 #[derive(Debug, Drop)]
@@ -95,6 +92,9 @@ pub struct Caller {
     pub replies: Replies,
 }
 
+/// System names with the actors that hold them, by the actors' numbers.
+pub type NameList = Items<(Text, u64)>;
+
 /// Callers in the order of their first decisions.
 pub type Callers = Items<Caller>;
 
@@ -104,7 +104,6 @@ pub type Callers = Items<Caller>;
 pub struct OfficeState {
     pub actors: ActorRecords,
     pub timers: TimerList,
-    /// The system names, in the order of the actors that hold them.
     pub names: NameList,
     pub callers: Callers,
     /// In milliseconds; no clock is read.
