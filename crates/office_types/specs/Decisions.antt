@@ -17,12 +17,12 @@ use Rattle.office_types.specs.declared.request.Word.{Word}
 use Rattle.office_types.specs.declared.request.Word.TheVariants as word
 use Rattle.office_types.specs.Definitions.{OfficeDefinitions, machine_named}
 use Rattle.office_types.specs.Effects.{has_actor_room, with_machine}
-use Rattle.office_types.specs.Ends.{done_record, error_record, ended, letters_to_parent, parent_told}
+use Rattle.office_types.specs.Ends.{done_record, error_record, after_end, letters_to_parent, with_letter_to_parent}
 use Rattle.office_types.specs.Events.{event_type, is_reserved, done_event, error_event}
 use Rattle.office_types.specs.Mailboxes.{has_letter_room, with_letter}
-use Rattle.office_types.specs.Moment.{advanced, due_letters}
+use Rattle.office_types.specs.Moment.{after_advance, due_letters}
 use Rattle.office_types.specs.Records.{is_active_machine, is_given, is_open_item}
-use Rattle.office_types.specs.Step.{counted}
+use Rattle.office_types.specs.Step.{with_entry}
 use Rattle.office_types.specs.SystemNames.{holder_of}
 use Rattle.office_types.specs.Timers.{due_by}
 
@@ -35,12 +35,12 @@ pub record Decision : Type 0 where
 abbrev pub Row : Type 0
 Row = Option Reply
 
-abbrev pub replied : ℕ → Word → ℕ → Reply
-replied status word value = record { status = status; word = word; value = value }
+abbrev pub reply_with : ℕ → Word → ℕ → Reply
+reply_with status word value = record { status = status; word = word; value = value }
 
 -- the row applies where the test holds
 abbrev pub row_if : Bool → ℕ → Word → ℕ → Row
-row_if test status word value = if test then Some (replied status word value) else None
+row_if test status word value = if test then Some (reply_with status word value) else None
 
 -- the first row that applies
 abbrev pub first_row : List Row → Row
@@ -103,7 +103,7 @@ machine_row definitions machine = row_if (is_none (machine_named definitions mac
 
 -- start: 409 name H: the system name is held, by actor H
 abbrev pub name_row : OfficeState → Option (List ℕ) → Row
-name_row state system = option_map (λ (holder : ℕ). replied 409 word.Name holder) (option_and_then (λ (name : List ℕ). holder_of name state.names) system)
+name_row state system = option_map (λ (holder : ℕ). reply_with 409 word.Name holder) (option_and_then (λ (name : List ℕ). holder_of name state.names) system)
 
 -- start: 429 actors: so many are active, or no number is left
 abbrev pub actors_row : OfficeState → Row
@@ -154,20 +154,20 @@ refusal definitions state (ask.At moment) =
 
 -- 201 actor A, 202 letter L, 200 item N, 200 due K
 abbrev pub grant : OfficeState → Ask → Reply
-grant state (ask.Start machine system input) = replied 201 word.Actor state.next_actor
-grant state (ask.Send actor event) = replied 202 word.Letter state.next_letter
-grant state (ask.Resolve item output) = replied 200 word.Item item
-grant state (ask.Reject item error) = replied 200 word.Item item
-grant state (ask.At moment) = replied 200 word.Due (length (due_by moment state.timers))
+grant state (ask.Start machine system input) = reply_with 201 word.Actor state.next_actor
+grant state (ask.Send actor event) = reply_with 202 word.Letter state.next_letter
+grant state (ask.Resolve item output) = reply_with 200 word.Item item
+grant state (ask.Reject item error) = reply_with 200 word.Item item
+grant state (ask.At moment) = reply_with 200 word.Due (length (due_by moment state.timers))
 
 -- the office after the request; the letters of a start and of a send are from the caller
-abbrev pub granted : OfficeDefinitions → List ℕ → Ask → OfficeState → OfficeState
-granted definitions caller (ask.Start machine system input) state =
+abbrev pub after_grant : OfficeDefinitions → List ℕ → Ask → OfficeState → OfficeState
+after_grant definitions caller (ask.Start machine system input) state =
     option_map_or (λ (number : ℕ). with_machine state (origin.Caller caller) None number input system) (machine_named definitions machine) state
-granted definitions caller (ask.Send actor event) state = with_letter state (origin.Caller caller) actor event
-granted definitions caller (ask.Resolve item output) state = parent_told (ended (done_record output) item state) item (done_event output)
-granted definitions caller (ask.Reject item error) state = parent_told (ended (error_record error) item state) item (error_event error)
-granted definitions caller (ask.At moment) state = advanced moment state
+after_grant definitions caller (ask.Send actor event) state = with_letter state (origin.Caller caller) actor event
+after_grant definitions caller (ask.Resolve item output) state = with_letter_to_parent (after_end (done_record output) item state) item (done_event output)
+after_grant definitions caller (ask.Reject item error) state = with_letter_to_parent (after_end (error_record error) item state) item (error_event error)
+after_grant definitions caller (ask.At moment) state = after_advance moment state
 
 -- ---- the decision
 
@@ -180,21 +180,21 @@ with_reply name reply (caller ∷ callers) =
     else caller ∷ with_reply name reply callers
 
 -- a reply is kept, and the decision is one entry more
-abbrev pub kept : List ℕ → Reply → OfficeState → OfficeState
-kept caller reply state = counted (record state { callers = with_reply caller reply state.callers })
+abbrev pub with_kept_reply : List ℕ → Reply → OfficeState → OfficeState
+with_kept_reply caller reply state = with_entry (record state { callers = with_reply caller reply state.callers })
 
 -- a refusal changes nothing else, and a grant makes its change
-abbrev pub decided_by : OfficeDefinitions → OfficeState → Request → Row → Decision
-decided_by definitions state request (Some refused) = record { reply = refused; after = kept request.caller refused state }
-decided_by definitions state request None =
+abbrev pub decision_by : OfficeDefinitions → OfficeState → Request → Row → Decision
+decision_by definitions state request (Some refused) = record { reply = refused; after = with_kept_reply request.caller refused state }
+decision_by definitions state request None =
     let reply : Reply = grant state request.ask in
-    record { reply = reply; after = kept request.caller reply (granted definitions request.caller request.ask state) }
+    record { reply = reply; after = with_kept_reply request.caller reply (after_grant definitions request.caller request.ask state) }
 
 -- the answer of the first row that applies
-abbrev pub answered_by : OfficeDefinitions → OfficeState → Request → Row → Decision
-answered_by definitions state request (Some reply) = record { reply = reply; after = state }
-answered_by definitions state request None = decided_by definitions state request (refusal definitions state request.ask)
+abbrev pub answer_by : OfficeDefinitions → OfficeState → Request → Row → Decision
+answer_by definitions state request (Some reply) = record { reply = reply; after = state }
+answer_by definitions state request None = decision_by definitions state request (refusal definitions state request.ask)
 
 -- what an office decides on a request
 unfoldable pub decided : OfficeDefinitions → OfficeState → Request → Decision
-decided definitions state request = answered_by definitions state request (undecided state request)
+decided definitions state request = answer_by definitions state request (undecided state request)

@@ -22,30 +22,30 @@ use Rattle.office_types.specs.Definitions.{OfficeDefinitions, ActorLogic}
 use Rattle.office_types.specs.Ends.{removed}
 use Rattle.office_types.specs.Events.{init_event}
 use Rattle.office_types.specs.Fitting.{Fitted, ◌>>=◌}
-use Rattle.office_types.specs.Mailboxes.{has_letter_room, with_letter, posted}
+use Rattle.office_types.specs.Mailboxes.{has_letter_room, with_letter, with_letter_if_room}
 use Rattle.office_types.specs.Receivers.{receiver_of}
 use Rattle.office_types.specs.Records.{active_actors, parent_of, record_of, with_actor}
-use Rattle.office_types.specs.SystemNames.{held, holder_of}
-use Rattle.office_types.specs.Timers.{cancelled, scheduled}
+use Rattle.office_types.specs.SystemNames.{with_holder, holder_of}
+use Rattle.office_types.specs.Timers.{without_id, with_scheduled}
 
 -- ---- send, schedule, cancel
 
 -- a letter to where the send goes; a dead letter changes nothing
-abbrev pub sent : ℕ → To → Value → OfficeState → Fitted
-sent number target event state =
-    option_map_or (λ (receiver : ℕ). posted state (origin.Actor number) receiver event) (receiver_of state number target) (Ok state)
+abbrev pub after_send : ℕ → To → Value → OfficeState → Fitted
+after_send number target event state =
+    option_map_or (λ (receiver : ℕ). with_letter_if_room state (origin.Actor number) receiver event) (receiver_of state number target) (Ok state)
 
 -- the office with a new timer
 abbrev pub with_timer : OfficeState → Timer → OfficeState
-with_timer state timer = record state { timers = scheduled state.timers timer; next_timer = state.next_timer + 1 }
+with_timer state timer = record state { timers = with_scheduled state.timers timer; next_timer = state.next_timer + 1 }
 
 -- a new timer has the next number, and finds room beside those that it doesn't replace
 abbrev pub has_timer_room : OfficeState → Timer → Bool
-has_timer_room state timer = nat_le (length (scheduled state.timers timer)) MAX_TIMERS && nat_lt state.next_timer MAX_NEXT_NUMBER
+has_timer_room state timer = nat_le (length (with_scheduled state.timers timer)) MAX_TIMERS && nat_lt state.next_timer MAX_NEXT_NUMBER
 
 -- a new timer stands, if it finds room and a number
-abbrev pub timed : OfficeState → Timer → Fitted
-timed state timer = if has_timer_room state timer then Ok (with_timer state timer) else Err TimersFull
+abbrev pub with_timer_if_room : OfficeState → Timer → Fitted
+with_timer_if_room state timer = if has_timer_room state timer then Ok (with_timer state timer) else Err TimersFull
 
 -- the timer that a schedule makes now: due after the delay, with the target of now
 abbrev pub timer_now : OfficeState → ℕ → Option (List ℕ) → ℕ → Value → ℕ → Timer
@@ -53,13 +53,13 @@ timer_now state number id delay event receiver =
     record { order = state.next_timer; owner = number; target = receiver; due = state.moment + delay; id = id; event = event }
 
 -- a timer where the send goes; a dead target makes none, and replaces none
-abbrev pub set_timer : ℕ → Option (List ℕ) → ℕ → To → Value → OfficeState → Fitted
-set_timer number id delay target event state =
-    option_map_or (λ (receiver : ℕ). timed state (timer_now state number id delay event receiver)) (receiver_of state number target) (Ok state)
+abbrev pub after_schedule : ℕ → Option (List ℕ) → ℕ → To → Value → OfficeState → Fitted
+after_schedule number id delay target event state =
+    option_map_or (λ (receiver : ℕ). with_timer_if_room state (timer_now state number id delay event receiver)) (receiver_of state number target) (Ok state)
 
 -- an actor's timer of this id is dropped
-abbrev pub without_timer : ℕ → List ℕ → OfficeState → OfficeState
-without_timer number id state = record state { timers = cancelled number id state.timers }
+abbrev pub after_cancel : ℕ → List ℕ → OfficeState → OfficeState
+after_cancel number id state = record state { timers = without_id number id state.timers }
 
 -- ---- new actors
 
@@ -86,7 +86,7 @@ fresh_record number parent system own item = record {
 abbrev pub with_record : OfficeState → ActorRecord → OfficeState
 with_record state actor = record state {
   actors = state.actors ++ actor ∷ [];
-  names = option_map_or (λ (name : List ℕ). held state.names name actor.number) actor.system state.names;
+  names = option_map_or (λ (name : List ℕ). with_holder state.names name actor.number) actor.system state.names;
   next_actor = state.next_actor + 1;
 }
 
@@ -136,8 +136,8 @@ abbrev pub with_kid : List ℕ → ℕ → ActorRecord → ActorRecord
 with_kid id number actor = record actor { kids = actor.kids ++ (id, number) ∷ [] }
 
 -- a child is made, if nothing stands against it
-abbrev pub made : ℕ → List ℕ → ActorLogic → Value → Option (List ℕ) → OfficeState → Fitted
-made number id logic input system state =
+abbrev pub with_child : ℕ → List ℕ → ActorLogic → Value → Option (List ℕ) → OfficeState → Fitted
+with_child number id logic input system state =
     if is_name_held state system then Err NameHeld
     else if not (has_actor_room state) then Err ActorsFull
     else if not (has_letter_room state (first_letters logic)) then Err LettersFull
@@ -145,9 +145,9 @@ made number id logic input system state =
     else Ok (with_actor (with_logic state number logic input system) number (with_kid id state.next_actor))
 
 -- a child of a row of the table
-abbrev pub spawned : OfficeDefinitions → ℕ → List ℕ → ℕ → Value → Option (List ℕ) → OfficeState → Fitted
-spawned definitions number id src input system state =
-    option_map_or (λ (logic : ActorLogic). made number id logic input system state) (slice_get definitions.actors src) (Ok state)
+abbrev pub after_spawn : OfficeDefinitions → ℕ → List ℕ → ℕ → Value → Option (List ℕ) → OfficeState → Fitted
+after_spawn definitions number id src input system state =
+    option_map_or (λ (logic : ActorLogic). with_child number id logic input system state) (slice_get definitions.actors src) (Ok state)
 
 -- a child is no more among its parent's
 abbrev pub without_kid : List ℕ → ActorRecord → ActorRecord
@@ -158,21 +158,21 @@ abbrev pub child_of : OfficeState → ℕ → List ℕ → Option ℕ
 child_of state number id = option_and_then (λ (actor : ActorRecord). lookup (bytes_eq id) actor.kids) (record_of state number)
 
 -- the child with this id is removed with all below it; where no child has the id nothing is
-abbrev pub stopped : ℕ → List ℕ → OfficeState → OfficeState
-stopped number id state =
+abbrev pub after_stop : ℕ → List ℕ → OfficeState → OfficeState
+after_stop number id state =
     option_map_or (λ (child : ℕ). with_actor (removed child state) number (without_kid id)) (child_of state number id) state
 
 -- ---- effects one after the other
 
 -- an effect of an actor's step
-abbrev pub effected : OfficeDefinitions → ℕ → Effect → OfficeState → Fitted
-effected definitions number (effect.Send target event) state = sent number target event state
-effected definitions number (effect.Schedule id delay target event) state = set_timer number id delay target event state
-effected definitions number (effect.Cancel id) state = Ok (without_timer number id state)
-effected definitions number (effect.Spawn id src input system) state = spawned definitions number id src input system state
-effected definitions number (effect.Stop id) state = Ok (stopped number id state)
+abbrev pub after_effect : OfficeDefinitions → ℕ → Effect → OfficeState → Fitted
+after_effect definitions number (effect.Send target event) state = after_send number target event state
+after_effect definitions number (effect.Schedule id delay target event) state = after_schedule number id delay target event state
+after_effect definitions number (effect.Cancel id) state = Ok (after_cancel number id state)
+after_effect definitions number (effect.Spawn id src input system) state = after_spawn definitions number id src input system state
+after_effect definitions number (effect.Stop id) state = Ok (after_stop number id state)
 
 -- effects one after the other, each on the state that the one before left; the first that doesn't fit gives the name
-unfoldable pub effected_in_turn : OfficeDefinitions → ℕ → List Effect → OfficeState → Fitted
-effected_in_turn definitions number [] state = Ok state
-effected_in_turn definitions number (first ∷ others) state = effected definitions number first state >>= effected_in_turn definitions number others
+unfoldable pub after_effects : OfficeDefinitions → ℕ → List Effect → OfficeState → Fitted
+after_effects definitions number [] state = Ok state
+after_effects definitions number (first ∷ others) state = after_effect definitions number first state >>= after_effects definitions number others

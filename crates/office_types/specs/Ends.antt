@@ -12,9 +12,9 @@ use Rattle.office_types.specs.declared.office.Status.TheVariants as status
 use Rattle.office_types.specs.declared.office.Timer.{Timer}
 use Rattle.office_types.specs.Events.{done_event, error_event}
 use Rattle.office_types.specs.Fitting.{Fitted}
-use Rattle.office_types.specs.Mailboxes.{posted, with_letter}
+use Rattle.office_types.specs.Mailboxes.{with_letter_if_room, with_letter}
 use Rattle.office_types.specs.Records.{record_of, parent_of, is_active}
-use Rattle.office_types.specs.SystemNames.{freed}
+use Rattle.office_types.specs.SystemNames.{without_holder}
 use Rattle.office_types.specs.Timers.{without_owner}
 
 -- the number is among these
@@ -34,7 +34,7 @@ subtree_of state number =
 abbrev pub without_belongings : List ℕ → OfficeState → OfficeState
 without_belongings numbers state = record state {
   timers = fold (λ (timers : List Timer) (number : ℕ). without_owner number timers) state.timers numbers;
-  names = fold freed state.names numbers;
+  names = fold without_holder state.names numbers;
 }
 
 -- ---- removal
@@ -71,8 +71,8 @@ record_after_end subtree number end actor =
 
 -- an actor ends: its mailbox is emptied, its timers are dropped, its name is freed, and its active
 -- descendants become stopped in the same way, their records staying
-unfoldable pub ended : (ActorRecord → ActorRecord) → ℕ → OfficeState → OfficeState
-ended end number state =
+unfoldable pub after_end : (ActorRecord → ActorRecord) → ℕ → OfficeState → OfficeState
+after_end end number state =
     let subtree : List ℕ = subtree_of state number in
     record (without_belongings subtree state) { actors = map (record_after_end subtree number end) state.actors }
 
@@ -85,8 +85,8 @@ child_id state parent number =
     (record_of state parent) []
 
 -- a letter to an actor's parent, if it has one; its event is made of the actor's child id
-abbrev pub parent_told : OfficeState → ℕ → (List ℕ → Value) → OfficeState
-parent_told state number event =
+abbrev pub with_letter_to_parent : OfficeState → ℕ → (List ℕ → Value) → OfficeState
+with_letter_to_parent state number event =
     option_map_or (λ (parent : ℕ). with_letter state (origin.Actor number) parent (event (child_id state parent number))) (parent_of state number) state
 
 -- how many letters tell an actor's parent something: one, if it has a parent
@@ -94,16 +94,16 @@ abbrev pub letters_to_parent : OfficeState → ℕ → ℕ
 letters_to_parent state number = option_map_or (λ (parent : ℕ). 1) (parent_of state number) 0
 
 -- the same, if the letter finds room and a number
-abbrev pub told_parent : OfficeState → ℕ → (List ℕ → Value) → Fitted
-told_parent state number event =
-    option_map_or (λ (parent : ℕ). posted state (origin.Actor number) parent (event (child_id state parent number))) (parent_of state number) (Ok state)
+abbrev pub after_telling_parent : OfficeState → ℕ → (List ℕ → Value) → Fitted
+after_telling_parent state number event =
+    option_map_or (λ (parent : ℕ). with_letter_if_room state (origin.Actor number) parent (event (child_id state parent number))) (parent_of state number) (Ok state)
 
 -- an actor gets done, and tells its parent
-abbrev pub done : ℕ → Value → OfficeState → Fitted
-done number output state = told_parent (ended (done_record output) number state) number (done_event output)
+abbrev pub after_done : ℕ → Value → OfficeState → Fitted
+after_done number output state = after_telling_parent (after_end (done_record output) number state) number (done_event output)
 
 -- an actor ends in error, and tells its parent; without a number for it the letter is a dead letter
-abbrev pub failed : ℕ → Value → OfficeState → OfficeState
-failed number error state =
-    let after : OfficeState = ended (error_record error) number state in
-    result_unwrap_or (told_parent after number (error_event error)) after
+abbrev pub after_failure : ℕ → Value → OfficeState → OfficeState
+after_failure number error state =
+    let after : OfficeState = after_end (error_record error) number state in
+    result_unwrap_or (after_telling_parent after number (error_event error)) after

@@ -15,6 +15,7 @@ use Rattle.office_types.specs.Definitions.{OfficeDefinitions}
 use Rattle.office_types.specs.Observation.{own_of}
 use Rattle.office_types.specs.Outcomes.{IsAllowedOutcome}
 use Rattle.office_types.specs.Records.{is_ready, record_of}
+use Rattle.office_types.specs.Requests.{IsRequest}
 use Rattle.office_types.specs.Step.{took}
 
 -- the outcome of a macrostep, by the own part and the event that it reads
@@ -45,9 +46,9 @@ abbrev pub after : OfficeDefinitions → Macrostep → OfficeState → List Entr
 after definitions macrostep state [] = state
 after definitions macrostep state (entry ∷ entries) = after definitions macrostep (after_entry definitions macrostep state entry) entries
 
--- a request that is decided, or a step of a ready actor
+-- a request that a line gives and that is decided, or a step of a ready actor
 abbrev pub IsLegalEntry : OfficeState → Entry → Type 0
-IsLegalEntry state (Decided request) = undecided state request ≡ None
+IsLegalEntry state (Decided request) = IsRequest request × (undecided state request ≡ None)
 IsLegalEntry state (Step number) = IsTrue (is_ready state number) × (state.entries < MAX_ENTRIES)
 
 -- each entry is legal at the office that those before it leave

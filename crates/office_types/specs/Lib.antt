@@ -15,11 +15,13 @@ pub mod Observation
 pub mod Step
 pub mod Moment
 pub mod Decisions
+pub mod Ready
 pub mod Callers
 pub mod OwnParts
 pub mod ValidOffice
 pub mod Outcomes
+pub mod Requests
 pub mod Entries
 pub mod JsonValues
-pub mod Requests
 pub mod RequestLines
+pub mod WorkedRows

@@ -30,8 +30,8 @@ with_letter state origin number event =
     record (with_actor state number (with_mail letter)) { next_letter = state.next_letter + 1 }
 
 -- a letter enters the mailbox of an actor, if it finds room and a number
-abbrev pub posted : OfficeState → Origin → ℕ → Value → Fitted
-posted state origin number event = if has_letter_room state 1 then Ok (with_letter state origin number event) else Err LettersFull
+abbrev pub with_letter_if_room : OfficeState → Origin → ℕ → Value → Fitted
+with_letter_if_room state origin number event = if has_letter_room state 1 then Ok (with_letter state origin number event) else Err LettersFull
 
 -- the head letter of an actor is taken out
 abbrev pub without_head : OfficeState → ℕ → OfficeState

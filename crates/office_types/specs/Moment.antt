@@ -8,8 +8,8 @@ use Rattle.office_types.specs.Records.{is_active_machine}
 use Rattle.office_types.specs.Timers.{due_by, not_due}
 
 -- a timer becomes a letter from its owner, or a dead letter if its target is not an active machine actor
-abbrev pub delivered : OfficeState → Timer → OfficeState
-delivered state timer =
+abbrev pub with_delivery : OfficeState → Timer → OfficeState
+with_delivery state timer =
     if is_active_machine state timer.target then with_letter state (origin.Actor timer.owner) timer.target timer.event else state
 
 -- how many letters the timers become that are due at a moment
@@ -17,5 +17,5 @@ abbrev pub due_letters : OfficeState → ℕ → ℕ
 due_letters state moment = length (filter (λ (timer : Timer). is_active_machine state timer.target) (due_by moment state.timers))
 
 -- the moment is set, and each timer that is due is taken out and delivered, in the order of due, and then of number
-unfoldable pub advanced : ℕ → OfficeState → OfficeState
-advanced moment state = fold delivered (record state { moment = moment; timers = not_due moment state.timers }) (due_by moment state.timers)
+unfoldable pub after_advance : ℕ → OfficeState → OfficeState
+after_advance moment state = fold with_delivery (record state { moment = moment; timers = not_due moment state.timers }) (due_by moment state.timers)

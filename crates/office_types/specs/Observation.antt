@@ -9,7 +9,7 @@ use Rattle.office_types.specs.declared.office.ActorRecord.{ActorRecord}
 use Rattle.office_types.specs.declared.office.OfficeState.{OfficeState}
 use Rattle.office_types.specs.declared.outcome.Own.{Own}
 use Rattle.office_types.specs.Definitions.{OfficeDefinitions, nodes_of, observed_at}
-use Rattle.office_types.specs.Ends.{told_parent, child_id}
+use Rattle.office_types.specs.Ends.{after_telling_parent, child_id}
 use Rattle.office_types.specs.Events.{snapshot_event}
 use Rattle.office_types.specs.Fitting.{Fitted}
 use Rattle.office_types.specs.Limits.{is_short}
@@ -40,6 +40,6 @@ abbrev pub short_snapshot_event : Value → List ℕ → Value
 short_snapshot_event snapshot id = if is_short (snapshot_event snapshot id) then snapshot_event snapshot id else snapshot_event value.Null id
 
 -- the parent of an observed actor is told what the actor is now
-abbrev pub observed : OfficeDefinitions → ℕ → Own → OfficeState → Fitted
-observed definitions number own state =
-    if is_observed definitions state number then told_parent state number (short_snapshot_event (snapshot_of definitions own)) else Ok state
+abbrev pub after_observation : OfficeDefinitions → ℕ → Own → OfficeState → Fitted
+after_observation definitions number own state =
+    if is_observed definitions state number then after_telling_parent state number (short_snapshot_event (snapshot_of definitions own)) else Ok state

@@ -52,9 +52,12 @@ abbrev pub is_open_item : OfficeState → ℕ → Bool
 is_open_item state number = option_map_or (λ (actor : ActorRecord). is_active actor && is_some actor.item) (record_of state number) false
 
 -- an actor is ready: it is an active machine actor, and a letter waits for it
+abbrev pub is_ready_actor : ActorRecord → Bool
+is_ready_actor actor = is_active actor && (is_some actor.own && nat_lt 0 (length actor.mailbox))
+
+-- the number is that of a ready actor
 abbrev pub is_ready : OfficeState → ℕ → Bool
-is_ready state number =
-    option_map_or (λ (actor : ActorRecord). is_active actor && (is_some actor.own && nat_lt 0 (length actor.mailbox))) (record_of state number) false
+is_ready state number = option_map_or is_ready_actor (record_of state number) false
 
 -- how many actors are active
 abbrev pub active_actors : OfficeState → ℕ

@@ -8,9 +8,9 @@ abbrev pub holder_of : List ℕ → List (List ℕ × ℕ) → Option ℕ
 holder_of name names = lookup (bytes_eq name) names
 
 -- an actor that is newer than all holders holds a name, too
-abbrev pub held : List (List ℕ × ℕ) → List ℕ → ℕ → List (List ℕ × ℕ)
-held names name actor = names ++ (name, actor) ∷ []
+abbrev pub with_holder : List (List ℕ × ℕ) → List ℕ → ℕ → List (List ℕ × ℕ)
+with_holder names name actor = names ++ (name, actor) ∷ []
 
 -- the names but for that of an actor
-abbrev pub freed : List (List ℕ × ℕ) → ℕ → List (List ℕ × ℕ)
-freed names actor = filter (λ (pair : List ℕ × ℕ). not (nat_eq pair.1 actor)) names
+abbrev pub without_holder : List (List ℕ × ℕ) → ℕ → List (List ℕ × ℕ)
+without_holder names actor = filter (λ (pair : List ℕ × ℕ). not (nat_eq pair.1 actor)) names

@@ -7,12 +7,12 @@ use Rattle.office_types.specs.declared.office.OfficeState.{OfficeState}
 use Rattle.office_types.specs.Records.{is_active}
 
 -- an item that is newer than all others is open, too
-abbrev pub opened : List Item → Item → List Item
-opened items item = items ++ item ∷ []
+abbrev pub with_open_item : List Item → Item → List Item
+with_open_item items item = items ++ item ∷ []
 
 -- the items but for the one of this number
-abbrev pub closed : ℕ → List Item → List Item
-closed number items = filter (λ (item : Item). not (nat_eq item.actor number)) items
+abbrev pub without_item : ℕ → List Item → List Item
+without_item number items = filter (λ (item : Item). not (nat_eq item.actor number)) items
 
 -- the item of this number
 abbrev pub item_of : ℕ → List Item → Option Item

@@ -4,6 +4,7 @@
 #![tactic(auto)]
 
 mod entry;
+pub mod laws;
 mod limits;
 mod line_fault;
 mod office;
@@ -12,9 +13,9 @@ mod request;
 
 pub use entry::Entry;
 pub use limits::{
-    MAX_ACTIVE_ACTORS, MAX_CALLER, MAX_CALLERS, MAX_CONTEXT_TEXT, MAX_ENTRIES, MAX_EVENT_TEXT, MAX_LETTERS,
-    MAX_LINE, MAX_MICROSTEPS, MAX_MOMENT, MAX_NAME, MAX_NESTING, MAX_NEXT_NUMBER, MAX_REPLIES, MAX_TIMERS,
-    MAX_TREE_LEVELS,
+    MAX_ACTIVE_ACTORS, MAX_CALLER, MAX_CALLERS, MAX_CONTEXT_TEXT, MAX_ENTRIES, MAX_EVENT_TEXT,
+    MAX_LETTERS, MAX_LINE, MAX_MICROSTEPS, MAX_MOMENT, MAX_NAME, MAX_NESTING, MAX_NEXT_NUMBER,
+    MAX_REPLIES, MAX_TIMERS, MAX_TREE_LEVELS,
 };
 pub use line_fault::LineFault;
 pub use office::{
