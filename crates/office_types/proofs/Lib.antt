@@ -1,1 +1,5 @@
+mod ValueLemmas
 mod WorkedRowLemmas
+mod LineLemmas
+mod RequestLemmas
+mod EntryLemmas

@@ -15,7 +15,7 @@ use Rattle.office_types.specs.Definitions.{OfficeDefinitions}
 use Rattle.office_types.specs.Observation.{own_of}
 use Rattle.office_types.specs.Outcomes.{IsAllowedOutcome}
 use Rattle.office_types.specs.Records.{is_ready, record_of}
-use Rattle.office_types.specs.Requests.{IsRequest}
+use Rattle.office_types.specs.RequestLines.{IsRequest}
 use Rattle.office_types.specs.Step.{took}
 
 -- the outcome of a macrostep, by the own part and the event that it reads

@@ -21,7 +21,9 @@ pub mod OwnParts
 pub mod ValidOffice
 pub mod Outcomes
 pub mod Requests
-pub mod Entries
 pub mod JsonValues
 pub mod RequestLines
+pub mod Entries
+pub mod LineParts
+pub mod Tokens
 pub mod WorkedRows

@@ -14,7 +14,7 @@ use Rattle.office_types.specs.declared.request.Ask.{Ask}
 use Rattle.office_types.specs.declared.request.Ask.TheVariants as ask
 use Rattle.office_types.specs.declared.request.Request.{Request}
 use Rattle.office_types.specs.JsonValues.{MeansValue}
-use Rattle.office_types.specs.Requests.{IsNumber, IsRequest}
+use Rattle.office_types.specs.Requests.{HasRequestForm, IsNumber}
 
 -- parts with one space between them
 abbrev pub spaced : List (List ℕ) → List ℕ
@@ -24,13 +24,21 @@ spaced = join_with_byte space
 abbrev pub system_text : Option (List ℕ) → List ℕ
 system_text system = unwrap_or system (codes "-")
 
--- the parts of an ask, with this text of its JSON, if it has one
+-- the word of an ask
+abbrev pub ask_word : Ask → List ℕ
+ask_word (ask.Start machine system input) = codes "start"
+ask_word (ask.Send actor event) = codes "send"
+ask_word (ask.Resolve item output) = codes "resolve"
+ask_word (ask.Reject item error) = codes "reject"
+ask_word (ask.At moment) = codes "at"
+
+-- the parts behind the word, with this text of the ask's JSON, if it has one
 abbrev pub ask_parts : Ask → List ℕ → List (List ℕ)
-ask_parts (ask.Start machine system input) json = codes "start" ∷ machine ∷ system_text system ∷ json ∷ []
-ask_parts (ask.Send actor event) json = codes "send" ∷ decimal actor ∷ json ∷ []
-ask_parts (ask.Resolve item output) json = codes "resolve" ∷ decimal item ∷ json ∷ []
-ask_parts (ask.Reject item error) json = codes "reject" ∷ decimal item ∷ json ∷ []
-ask_parts (ask.At moment) json = codes "at" ∷ decimal moment ∷ []
+ask_parts (ask.Start machine system input) json = machine ∷ system_text system ∷ json ∷ []
+ask_parts (ask.Send actor event) json = decimal actor ∷ json ∷ []
+ask_parts (ask.Resolve item output) json = decimal item ∷ json ∷ []
+ask_parts (ask.Reject item error) json = decimal item ∷ json ∷ []
+ask_parts (ask.At moment) json = decimal moment ∷ []
 
 -- the value that an ask's JSON means, if it has one
 abbrev pub ask_value : Ask → Option Value
@@ -42,7 +50,7 @@ ask_value (ask.At moment) = None
 
 -- the line of a request, with this text of its JSON, if it has one
 abbrev pub line_with : Request → List ℕ → List ℕ
-line_with request json = spaced (request.caller ∷ decimal request.number ∷ ask_parts request.ask json)
+line_with request json = spaced (request.caller ∷ decimal request.number ∷ ask_word request.ask ∷ ask_parts request.ask json)
 
 -- the text means the ask's JSON; without one it is empty, and stands nowhere
 abbrev pub SpellsValue : List ℕ → Option Value → Type 0
@@ -52,10 +60,18 @@ SpellsValue json (Some value) = MeansValue json value
 -- the line of a request: `CALLER NUMBER`, and what is asked for; white space may stand round its JSON
 pub record IsRequestLine (line : List ℕ) (request : Request) : Type 0 where
   pub short : length line ≤ MAX_LINE
-  pub asked : IsRequest request
+  pub form : HasRequestForm request
   pub json : List ℕ
   pub meaning : SpellsValue json (ask_value request.ask)
   pub spelled : line ≡ line_with request json
+
+-- a request: one that a line gives
+abbrev pub IsRequest : Request → Type 0
+IsRequest request = (line : List ℕ) × IsRequestLine line request
+
+-- a line is the line of one request at most
+abbrev pub RequestIsUnique : Type 0
+RequestIsUnique = (line : List ℕ) (a b : Request) → IsRequestLine line a → IsRequestLine line b → a ≡ b
 
 -- ---- canonical lines, and entries
 
@@ -73,14 +89,10 @@ abbrev pub entry_text : Entry → List ℕ
 entry_text (Decided request) = codes "R " ++ canonical_line request
 entry_text (Step actor) = codes "S " ++ decimal actor
 
-abbrev pub IsEntry : Entry → Type 0
-IsEntry (Decided request) = IsRequest request
-IsEntry (Step actor) = IsNumber actor
-
--- the payload is the text of an entry
-pub record IsEntryText (payload : List ℕ) (entry : Entry) : Type 0 where
-  pub well_formed : IsEntry entry
-  pub spelled : payload ≡ entry_text entry
+-- the payload is the text of an entry, whose request's canonical line is a line of that request
+abbrev pub IsEntryText : List ℕ → Entry → Type 0
+IsEntryText payload (Decided request) = (payload ≡ entry_text (Decided request)) × IsRequestLine (canonical_line request) request
+IsEntryText payload (Step actor) = (payload ≡ entry_text (Step actor)) × IsNumber actor
 
 -- ---- reading
 

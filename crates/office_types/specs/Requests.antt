@@ -1,4 +1,4 @@
--- Which requests there are.
+-- What callers may ask for.
 use Rattle.std.specs.Prelude.{◌≡◌, ◌≢◌, ℕ, ◌<◌, ◌≤◌, ◌^◌, List, length, Option, None, Some, codes, All, IsTrue, IsUtf8, is_some, IfSome}
 use Rattle.xs_data.specs.Ascii.{space}
 use Rattle.xs_model.specs.declared.value.Value.{Value}
@@ -26,16 +26,16 @@ abbrev pub IsNumber : ℕ → Type 0
 IsNumber number = number < 2 ^ 64
 
 -- what a caller may ask for
-abbrev pub IsAsk : Ask → Type 0
-IsAsk (ask.Start machine system input) = IsVisibleName machine × IfSome system IsSystemName × IsTrue (is_short input)
-IsAsk (ask.Send actor event) = IsNumber actor × IsTrue (is_short event) × IsTrue (is_some (event_type event))
-IsAsk (ask.Resolve item output) = IsNumber item × IsTrue (is_short output)
-IsAsk (ask.Reject item error) = IsNumber item × IsTrue (is_short error)
-IsAsk (ask.At moment) = moment ≤ MAX_MOMENT
+abbrev pub HasAskForm : Ask → Type 0
+HasAskForm (ask.Start machine system input) = IsVisibleName machine × IfSome system IsSystemName × IsTrue (is_short input)
+HasAskForm (ask.Send actor event) = IsNumber actor × IsTrue (is_short event) × IsTrue (is_some (event_type event))
+HasAskForm (ask.Resolve item output) = IsNumber item × IsTrue (is_short output)
+HasAskForm (ask.Reject item error) = IsNumber item × IsTrue (is_short error)
+HasAskForm (ask.At moment) = moment ≤ MAX_MOMENT
 
--- a request: a caller, which numbers its own from 1, and what it asks for
-pub record IsRequest (request : Request) : Type 0 where
+-- a caller, which numbers its requests from 1, and what it may ask for
+pub record HasRequestForm (request : Request) : Type 0 where
   pub caller : IsTrue (is_caller request.caller)
   pub numbered : 0 < request.number
   pub number : IsNumber request.number
-  pub asked : IsAsk request.ask
+  pub ask : HasAskForm request.ask

@@ -1,4 +1,6 @@
 //! Why bytes are no line.
+
+use ordered_json::JsonFault;
 use std::alloc::AllocError;
 use thiserror::Error;
 
@@ -20,5 +22,19 @@ impl From<AllocError> for LineFault {
 
     fn from(_error: AllocError) -> LineFault {
         LineFault::Memory
+    }
+}
+
+impl From<JsonFault> for LineFault {
+    ghost use Rattle.office_types.specs.LineParts.{line_fault};
+    ghost use Rattle.std.specs.Prelude.{◌≡◌};
+
+    ghost from_gives = { λ fault line. line ≡ line_fault fault };
+
+    fn from(fault: JsonFault) -> LineFault {
+        match fault {
+            JsonFault::Memory => LineFault::Memory,
+            _ => LineFault::NotALine,
+        }
     }
 }
