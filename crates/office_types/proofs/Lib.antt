@@ -3,3 +3,6 @@ mod WorkedRowLemmas
 mod LineLemmas
 mod RequestLemmas
 mod EntryLemmas
+mod CanonicalLemmas
+mod PlainLemmas
+mod CanonicalLineLemmas

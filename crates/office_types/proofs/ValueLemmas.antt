@@ -1,12 +1,13 @@
 -- What JSON means, kind by kind, and how the tokens of a value are printed.
-use Rattle.std.proofs.Common.{◌≡◌, ◌≤◌, ℕ, length, take, Bool, true, false, cond, List, [], ◌∷◌, ◌++◌, map, refl, sym, ap, subst, ◌∙◌, append_assoc, append-nil, rules}
-use Rattle.std.specs.Prelude.{Result, Ok, Err, OnOk}
+use Rattle.std.proofs.Common.{◌≡◌, ◌≤◌, ℕ, suc, ℤ, length, take, Bool, true, false, cond, List, [], ◌∷◌, ◌++◌, map, refl, sym, ap, subst, ◌∙◌, append_assoc, append-nil, rules}
+use Rattle.std.specs.Prelude.{Result, Ok, Err, OnOk, codes}
+use Rattle.std.specs.Map.{values_of}
 use Rattle.std.specs.List.{flat_map, fold, join_with_byte}
 use Rattle.std.proofs.lemmas.List.{take_all}
 use Rattle.std.specs.Fmt.{signed_decimal}
-use Rattle.json.specs.Print.{print, print_from, token_text}
+use Rattle.json.specs.Print.{print, print_from, quoted, token_text}
 use Rattle.json.specs.Token.{Token, begin_array, begin_object, boolean, end_array, end_object, key, null, number, string}
-use Rattle.ordered_json.specs.declared.json.Member.{Member, out-Member}
+use Rattle.ordered_json.specs.declared.json.Member.{Member, fold-Member, fold_out-Member, out-Member}
 use Rattle.ordered_json.specs.declared.json.OrderedJson.{OrderedJson, the_lemmas as json_lemmas}
 use Rattle.ordered_json.specs.declared.json.OrderedJson.TheVariants as json
 use Rattle.ordered_json.specs.Words.{key_of}
@@ -14,12 +15,12 @@ use Rattle.xs_model.specs.declared.value.Value.{Value, the_lemmas}
 use Rattle.xs_model.specs.declared.value.Value.TheOpen.{Value-F}
 use Rattle.xs_model.specs.declared.value.Value.TheVariants as value
 use Rattle.xs_model.specs.declared.value.Value.TheVariants.{rolls-Null, rolls-Bool, rolls-Int, rolls-Text, rolls-List, rolls-Map}
-use Rattle.xs_model.specs.Compact.{compact_text, keyed_text, bracketed}
+use Rattle.xs_model.specs.Compact.{bracketed, compact_text, deepest, keyed_text, nesting}
 use Rattle.xs_model.specs.Rising.{put}
 use Rattle.xs_model.proofs.CompactLemmas.{compact-List, compact-Map}
 use Rattle.xs_model.proofs.PartLemmas.{by_parts, Parts}
 use Rattle.std.specs.List.{AllByRecursion}
-use Rattle.office_types.specs.JsonValues.{json_value, map_of}
+use Rattle.office_types.specs.JsonValues.{json_value, layer_value, map_of, member_value}
 use Rattle.xs_model.specs.declared.value.Value.TheViews.{roll-Value}
 use Rattle.office_types.specs.Tokens.{member_tokens, tokens_of}
 
@@ -35,6 +36,55 @@ fields_of members = fold (λ (sorted : List (List ℕ × Value)) (member : Membe
 
 pub json-List : (place : ℕ) (items : List OrderedJson) → json_value (json.List place items) ≡ value.List (map json_value items)
 json-List place items = search (rules, json_lemmas)
+
+pub json-Null : (place : ℕ) → json_value (json.Null place) ≡ value.Null
+json-Null place = search (rules, json_lemmas)
+
+pub json-Bool : (place : ℕ) (truth : Bool) → json_value (json.Bool place truth) ≡ value.Bool truth
+json-Bool place truth = search (rules, json_lemmas)
+
+pub json-Int : (place : ℕ) (n : ℤ) → json_value (json.Int place n) ≡ value.Int n
+json-Int place n = search (rules, json_lemmas)
+
+pub json-Text : (place : ℕ) (text : List ℕ) → json_value (json.Text place text) ≡ value.Text text
+json-Text place text = search (rules, json_lemmas)
+
+same_members : (members : List Member) → map (fold-Member Value (List ℕ × Value) layer_value member_value) members ≡ map json_member members
+same_members [] = refl
+same_members (m ∷ members) =
+    ap (λ (x : List ℕ × Value). x ∷ map (fold-Member Value (List ℕ × Value) layer_value member_value) members) (fold_out-Member Value (List ℕ × Value) layer_value member_value m)
+    ∙ ap (λ xs. json_member m ∷ xs) (same_members members)
+
+pub json-Object : (place : ℕ) (members : List Member) → json_value (json.Object place members) ≡ map_of (map json_member members)
+json-Object place members = search (rules, json_lemmas, same_members)
+
+-- ---- the text and the nesting of each kind
+
+pub compact-Null : compact_text value.Null ≡ codes "null"
+compact-Null = search (rules, the_lemmas)
+
+pub compact-Bool : (truth : Bool) → compact_text (value.Bool truth) ≡ token_text (boolean truth)
+compact-Bool true = search (rules, the_lemmas)
+compact-Bool false = search (rules, the_lemmas)
+
+pub compact-Int : (n : ℤ) → compact_text (value.Int n) ≡ signed_decimal n
+compact-Int n = search (rules, the_lemmas)
+
+pub compact-Text : (text : List ℕ) → compact_text (value.Text text) ≡ quoted text
+compact-Text text = search (rules, the_lemmas)
+
+pub nesting-Text : (text : List ℕ) → nesting (value.Text text) ≡ 0
+nesting-Text text = search (rules, the_lemmas)
+
+pub nesting-List : (members : List Value) → nesting (value.List members) ≡ suc (deepest (map nesting members))
+nesting-List members = search (rules, the_lemmas)
+
+nested : (members : List (List ℕ × Value)) → values_of (map (λ (m : List ℕ × Value). (m.0, nesting m.1)) members) ≡ map (λ (m : List ℕ × Value). nesting m.1) members
+nested [] = refl
+nested (m ∷ members) = ap (λ depths. nesting m.1 ∷ depths) (nested members)
+
+pub nesting-Map : (members : List (List ℕ × Value)) → nesting (value.Map members) ≡ suc (deepest (map (λ (m : List ℕ × Value). nesting m.1) members))
+nesting-Map members = search (rules, the_lemmas, nested)
 
 -- ---- tokens
 
@@ -190,14 +240,10 @@ map_prints members each after rest =
     ∙ bracket 123 125 after (join_with_byte 44 (map keyed_text members)) (print_from true rest)
     ∙ ap (λ text. comma_if after ++ (text ++ print_from true rest)) (sym (compact-Map members))
 
-bool_text : (truth : Bool) → compact_text (value.Bool truth) ≡ token_text (boolean truth)
-bool_text true = search (rules, the_lemmas)
-bool_text false = search (rules, the_lemmas)
-
 layer_prints : (x : Value-F Value) → Parts Prints x → Prints (roll-Value x)
 layer_prints Value-F.Null each = subst Prints (sym rolls-Null) (scalar value.Null null (token_text null) (search (rules, the_lemmas)) (search (rules, the_lemmas)) null_prints)
 layer_prints (Value-F.Bool truth) each =
-    subst Prints (sym (rolls-Bool truth)) (scalar (value.Bool truth) (boolean truth) (token_text (boolean truth)) (search (rules, the_lemmas)) (bool_text truth) (boolean_prints truth))
+    subst Prints (sym (rolls-Bool truth)) (scalar (value.Bool truth) (boolean truth) (token_text (boolean truth)) (search (rules, the_lemmas)) (compact-Bool truth) (boolean_prints truth))
 layer_prints (Value-F.Int n) each =
     subst Prints (sym (rolls-Int n)) (scalar (value.Int n) (number (signed_decimal n)) (signed_decimal n) (search (rules, the_lemmas)) (search (rules, the_lemmas)) (number_prints (signed_decimal n)))
 layer_prints (Value-F.Text text) each =

@@ -1,6 +1,5 @@
 -- The worked examples come out as written.
-use Rattle.std.proofs.Common.{◌≡◌, ℕ, suc, true, List, [], ◌∷◌, map, refl, ap, rules}
-use Rattle.std.specs.Map.{values_of}
+use Rattle.std.proofs.Common.{◌≡◌, true, refl}
 use Rattle.json.proofs.OnLiterals.{json_on_literals}
 use denote.Hole.Carrier.{out, shown, hidden}
 use Rattle.xs_model.specs.declared.value.Value.{out-Value}
@@ -11,11 +10,9 @@ use Rattle.office_types.specs.StateValue.{active_nodes}
 use Rattle.office_types.specs.Moment.{after_advance}
 use Rattle.office_types.specs.Step.{took}
 use Rattle.office_types.specs.Decisions.{decided}
-use Rattle.xs_model.specs.declared.value.Value.{Value, the_lemmas}
-use Rattle.xs_model.specs.declared.value.Value.TheVariants as value
-use Rattle.xs_model.specs.Compact.{compact_text, quoted_text, nesting, deepest}
 use Rattle.xs_model.proofs.CompactLemmas.{compact-Map}
 use Rattle.office_types.specs.Limits.{is_short}
+use Rattle.office_types.proofs.ValueLemmas.{compact-Text, nesting-Map, nesting-Text}
 use Rattle.office_types.specs.WorkedRows.{told, WorkedExamples, RepeatsAreKept, GapsAreRefused, EndedActorsTakeNothing, ErrorsClimb, HeldNamesAreFaults, ItemsTellTheirParents, ItemsGoWithTheirState, TimersStand, TimersBecomeLetters, ObservedChildrenTell, DoneChildrenTellTheirEnd}
 
 repeats_are_kept : RepeatsAreKept
@@ -53,19 +50,6 @@ timers_stand = record { replied = refl; after = refl }
 timers_become_letters : TimersBecomeLetters
 unfolding out-Value out shown hidden shown-the_row-Value-1 subtree_of removed after_end is_within_levels after_effects active_nodes after_advance took decided
 timers_become_letters = record { replied = refl; after = refl }
-
-compact-Text : (text : List ℕ) → compact_text (value.Text text) ≡ quoted_text text
-compact-Text text = search (rules, the_lemmas)
-
-nesting-Text : (text : List ℕ) → nesting (value.Text text) ≡ 0
-nesting-Text text = search (rules, the_lemmas)
-
-nested : (members : List (List ℕ × Value)) → values_of (map (λ (m : List ℕ × Value). (m.0, nesting m.1)) members) ≡ map (λ (m : List ℕ × Value). nesting m.1) members
-nested [] = refl
-nested (m ∷ members) = ap (λ depths. nesting m.1 ∷ depths) (nested members)
-
-nesting-Map : (members : List (List ℕ × Value)) → nesting (value.Map members) ≡ suc (deepest (map (λ (m : List ℕ × Value). nesting m.1) members))
-nesting-Map members = search (rules, the_lemmas, nested)
 
 -- the event of the observed child is short enough for its snapshot
 snapshot_is_short : is_short told ≡ true

@@ -26,4 +26,5 @@ pub mod RequestLines
 pub mod Entries
 pub mod LineParts
 pub mod Tokens
+pub mod Laws
 pub mod WorkedRows

@@ -1,5 +1,6 @@
 //! What follows from the definitions of an office.
 
+ghost use Rattle.office_types.specs.Laws.{CanonicalLinesAreLines, CompactTextMeansItsValue, EntriesReadBack, MeantValuesArePlain};
 ghost use Rattle.office_types.specs.RequestLines.{RequestIsUnique};
 ghost use Rattle.office_types.specs.WorkedRows.{WorkedExamples};
 
@@ -13,4 +14,26 @@ pub fn request_is_unique()
     ensures { RequestIsUnique }
 {
     ordered_json::laws::meaning_is_unique();
+}
+
+/// The compact text of a value means the value.
+pub fn compact_text_means_its_value()
+    ensures { CompactTextMeansItsValue }
+{}
+
+/// What a text means is a value as those of programs are.
+pub fn meant_values_are_plain()
+    ensures { MeantValuesArePlain }
+{}
+
+/// The canonical line of a request is a line of that request.
+pub fn canonical_lines_are_lines()
+    ensures { CanonicalLinesAreLines }
+{}
+
+/// What is written of an entry reads as the entry, and as no other.
+pub fn entries_read_back()
+    ensures { EntriesReadBack }
+{
+    request_is_unique();
 }
