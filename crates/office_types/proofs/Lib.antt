@@ -6,3 +6,4 @@ mod EntryLemmas
 mod CanonicalLemmas
 mod PlainLemmas
 mod CanonicalLineLemmas
+mod CallerLemmas

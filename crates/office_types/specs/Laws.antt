@@ -1,7 +1,8 @@
 -- What follows from the definitions, in the words of one who reads lines and entries.
-use Rattle.std.specs.Prelude.{◌≡◌, ◌≤◌, ℕ, List, length, FitsSigned, IsUtf8, ⊤}
+use Rattle.std.specs.Prelude.{◌≡◌, ◌≤◌, ℕ, List, [], ◌∷◌, length, FitsSigned, IsUtf8, ⊤, if◌then◌else◌}
 use Rattle.std.specs.Int.{w64}
-use Rattle.std.specs.List.{AllByRecursion}
+use Rattle.std.specs.List.{AllByRecursion, range_with_len}
+use Rattle.std.specs.Str.{bytes_eq}
 use Rattle.xs_model.specs.declared.value.Value.{Value}
 use Rattle.xs_model.specs.declared.value.Value.TheFolds.{every-Value}
 use Rattle.xs_model.specs.declared.value.Value.TheOpen.{Value-F}
@@ -9,7 +10,11 @@ use Rattle.xs_model.specs.Compact.{compact_text, nesting}
 use Rattle.xs_model.specs.Rising.{KeysRise}
 use Rattle.office_types.specs.declared.entry.Entry.{Entry}
 use Rattle.office_types.specs.declared.entry.Entry.TheVariants.{Decided, Step}
+use Rattle.office_types.specs.declared.office.OfficeState.{OfficeState}
 use Rattle.office_types.specs.declared.request.Request.{Request}
+use Rattle.office_types.specs.Decisions.{decided, next_number}
+use Rattle.office_types.specs.Definitions.{OfficeDefinitions}
+use Rattle.office_types.specs.Entries.{AreLegal, Macrostep, after}
 use Rattle.office_types.specs.JsonValues.{MeansValue}
 use Rattle.office_types.specs.RequestLines.{IsEntryText, IsRequest, IsRequestLine, canonical_line, entry_text}
 use Rattle.office_types.specs.Requests.{IsNumber}
@@ -46,3 +51,26 @@ IsEntry (Step actor) = IsNumber actor
 pub record EntriesReadBack : Type 0 where
   pub written : (entry : Entry) → IsEntry entry → IsEntryText (entry_text entry) entry
   pub once : (payload : List ℕ) (a b : Entry) → IsEntryText payload a → IsEntryText payload b → a ≡ b
+
+-- ---- callers
+
+-- the numbers of a caller's requests among entries, in their order
+abbrev pub numbers_of : List ℕ → List Entry → List ℕ
+numbers_of caller [] = []
+numbers_of caller (Decided request ∷ entries) = if bytes_eq request.caller caller then request.number ∷ numbers_of caller entries else numbers_of caller entries
+numbers_of caller (Step actor ∷ entries) = numbers_of caller entries
+
+-- in legal entries the requests of each caller have its next numbers, with none left out and none twice
+abbrev pub RequestsStandOnce : Type 0
+RequestsStandOnce =
+    (definitions : OfficeDefinitions) (macrostep : Macrostep) (state : OfficeState) (entries : List Entry) (caller : List ℕ) → AreLegal definitions macrostep state entries
+    → numbers_of caller entries ≡ range_with_len (next_number state caller) (length (numbers_of caller entries))
+
+-- a request with the caller and the number of a decided one gets the reply to that one, whatever else it says
+-- and whatever happened since, and changes nothing
+abbrev pub RepeatsGetTheReply : Type 0
+RepeatsGetTheReply =
+    (definitions : OfficeDefinitions) (macrostep : Macrostep) (state : OfficeState) (request again : Request) (entries : List Entry)
+    → AreLegal definitions macrostep state (Decided request ∷ entries) → again.caller ≡ request.caller → again.number ≡ request.number
+    → decided definitions (after definitions macrostep state (Decided request ∷ entries)) again
+    ≡ record { reply = (decided definitions state request).reply; after = after definitions macrostep state (Decided request ∷ entries) }

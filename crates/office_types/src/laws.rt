@@ -1,6 +1,6 @@
 //! What follows from the definitions of an office.
 
-ghost use Rattle.office_types.specs.Laws.{CanonicalLinesAreLines, CompactTextMeansItsValue, EntriesReadBack, MeantValuesArePlain};
+ghost use Rattle.office_types.specs.Laws.{CanonicalLinesAreLines, CompactTextMeansItsValue, EntriesReadBack, MeantValuesArePlain, RepeatsGetTheReply, RequestsStandOnce};
 ghost use Rattle.office_types.specs.RequestLines.{RequestIsUnique};
 ghost use Rattle.office_types.specs.WorkedRows.{WorkedExamples};
 
@@ -37,3 +37,13 @@ pub fn entries_read_back()
 {
     request_is_unique();
 }
+
+/// In legal entries each request stands once, in its caller's order.
+pub fn requests_stand_once()
+    ensures { RequestsStandOnce }
+{}
+
+/// A repeat is answered by the reply kept, whatever happened since.
+pub fn repeats_get_the_reply()
+    ensures { RepeatsGetTheReply }
+{}
