@@ -7,3 +7,5 @@ mod CanonicalLemmas
 mod PlainLemmas
 mod CanonicalLineLemmas
 mod CallerLemmas
+mod ChangeLemmas
+mod LetterLemmas

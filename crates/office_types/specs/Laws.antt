@@ -1,5 +1,5 @@
 -- What follows from the definitions, in the words of one who reads lines and entries.
-use Rattle.std.specs.Prelude.{◌≡◌, ◌≤◌, ℕ, List, [], ◌∷◌, length, FitsSigned, IsUtf8, ⊤, if◌then◌else◌}
+use Rattle.std.specs.Prelude.{◌≡◌, ◌<◌, ◌≤◌, ℕ, List, [], ◌∷◌, length, Contains, FitsSigned, IsUtf8, ⊤, if◌then◌else◌}
 use Rattle.std.specs.Int.{w64}
 use Rattle.std.specs.List.{AllByRecursion, range_with_len}
 use Rattle.std.specs.Str.{bytes_eq}
@@ -10,6 +10,7 @@ use Rattle.xs_model.specs.Compact.{compact_text, nesting}
 use Rattle.xs_model.specs.Rising.{KeysRise}
 use Rattle.office_types.specs.declared.entry.Entry.{Entry}
 use Rattle.office_types.specs.declared.entry.Entry.TheVariants.{Decided, Step}
+use Rattle.office_types.specs.declared.office.Letter.{Letter}
 use Rattle.office_types.specs.declared.office.OfficeState.{OfficeState}
 use Rattle.office_types.specs.declared.request.Request.{Request}
 use Rattle.office_types.specs.Decisions.{decided, next_number}
@@ -18,6 +19,7 @@ use Rattle.office_types.specs.Entries.{AreLegal, Macrostep, after}
 use Rattle.office_types.specs.JsonValues.{MeansValue}
 use Rattle.office_types.specs.RequestLines.{IsEntryText, IsRequest, IsRequestLine, canonical_line, entry_text}
 use Rattle.office_types.specs.Requests.{IsNumber}
+use Rattle.office_types.specs.ValidOffice.{letters_of}
 
 -- a layer as those of values in a program are: numbers of 64 bits, texts in UTF-8, and keys in UTF-8 that rise
 abbrev pub IsPlainLayer : Value-F Value → Type 0
@@ -74,3 +76,12 @@ RepeatsGetTheReply =
     → AreLegal definitions macrostep state (Decided request ∷ entries) → again.caller ≡ request.caller → again.number ≡ request.number
     → decided definitions (after definitions macrostep state (Decided request ∷ entries)) again
     ≡ record { reply = (decided definitions state request).reply; after = after definitions macrostep state (Decided request ∷ entries) }
+
+-- ---- letters
+
+-- a letter that waits after entries, and whose number was given before them, waited before, with the same event
+abbrev pub LettersWaitedBefore : Type 0
+LettersWaitedBefore =
+    (definitions : OfficeDefinitions) (macrostep : Macrostep) (state : OfficeState) (entries : List Entry) (letter : Letter)
+    → Contains (letters_of (after definitions macrostep state entries).actors) letter → letter.number < state.next_letter
+    → Contains (letters_of state.actors) letter

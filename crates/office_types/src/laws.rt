@@ -1,6 +1,6 @@
 //! What follows from the definitions of an office.
 
-ghost use Rattle.office_types.specs.Laws.{CanonicalLinesAreLines, CompactTextMeansItsValue, EntriesReadBack, MeantValuesArePlain, RepeatsGetTheReply, RequestsStandOnce};
+ghost use Rattle.office_types.specs.Laws.{CanonicalLinesAreLines, CompactTextMeansItsValue, EntriesReadBack, LettersWaitedBefore, MeantValuesArePlain, RepeatsGetTheReply, RequestsStandOnce};
 ghost use Rattle.office_types.specs.RequestLines.{RequestIsUnique};
 ghost use Rattle.office_types.specs.WorkedRows.{WorkedExamples};
 
@@ -46,4 +46,9 @@ pub fn requests_stand_once()
 /// A repeat is answered by the reply kept, whatever happened since.
 pub fn repeats_get_the_reply()
     ensures { RepeatsGetTheReply }
+{}
+
+/// A letter that waits after entries, and whose number was given before them, waited before.
+pub fn letters_waited_before()
+    ensures { LettersWaitedBefore }
 {}
