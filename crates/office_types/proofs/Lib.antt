@@ -1,0 +1,11 @@
+mod ValueLemmas
+mod WorkedRowLemmas
+mod LineLemmas
+mod RequestLemmas
+mod EntryLemmas
+mod CanonicalLemmas
+mod PlainLemmas
+mod CanonicalLineLemmas
+mod CallerLemmas
+mod ChangeLemmas
+mod LetterLemmas

@@ -1,0 +1,54 @@
+//! What follows from the definitions of an office.
+
+ghost use Rattle.office_types.specs.Laws.{CanonicalLinesAreLines, CompactTextMeansItsValue, EntriesReadBack, LettersWaitedBefore, MeantValuesArePlain, RepeatsGetTheReply, RequestsStandOnce};
+ghost use Rattle.office_types.specs.RequestLines.{RequestIsUnique};
+ghost use Rattle.office_types.specs.WorkedRows.{WorkedExamples};
+
+/// The worked examples come out as they are written.
+pub fn worked_examples()
+    ensures { WorkedExamples }
+{}
+
+/// A line is the line of one request at most.
+pub fn request_is_unique()
+    ensures { RequestIsUnique }
+{
+    ordered_json::laws::meaning_is_unique();
+}
+
+/// The compact text of a value means the value.
+pub fn compact_text_means_its_value()
+    ensures { CompactTextMeansItsValue }
+{}
+
+/// What a text means is a value as those of programs are.
+pub fn meant_values_are_plain()
+    ensures { MeantValuesArePlain }
+{}
+
+/// The canonical line of a request is a line of that request.
+pub fn canonical_lines_are_lines()
+    ensures { CanonicalLinesAreLines }
+{}
+
+/// What is written of an entry reads as the entry, and as no other.
+pub fn entries_read_back()
+    ensures { EntriesReadBack }
+{
+    request_is_unique();
+}
+
+/// In legal entries each request stands once, in its caller's order.
+pub fn requests_stand_once()
+    ensures { RequestsStandOnce }
+{}
+
+/// A repeat is answered by the reply kept, whatever happened since.
+pub fn repeats_get_the_reply()
+    ensures { RepeatsGetTheReply }
+{}
+
+/// A letter that waits after entries, and whose number was given before them, waited before.
+pub fn letters_waited_before()
+    ensures { LettersWaitedBefore }
+{}
