@@ -87,8 +87,8 @@ abbrev pub IsParent : Nodes → ℕ → Type 0
 IsParent nodes n = IsSomeAnd (kind_of nodes n) IsParentKind
 
 -- the key of a node
-abbrev pub key_of : Nodes → ℕ → Option (List ℕ)
-key_of nodes n = option_map (λ (node : Node). node.key) (slice_get nodes n)
+abbrev pub node_key : Nodes → ℕ → Option (List ℕ)
+node_key nodes n = option_map (λ (node : Node). node.key) (slice_get nodes n)
 
 -- what is said of a node
 abbrev pub IsSaidOf : Def → ℕ → NodeDef → Type 0
@@ -113,7 +113,7 @@ pub record IsWellFormed (actors : ℕ) (def : Def) : Type 0 where
   pub parents : (n p : ℕ) → IsChild def.tree n p → IsParent def.tree p
   -- no two children of one node have the same key
   pub keys : (a b p : ℕ) → IsChild def.tree a p → IsChild def.tree b p
-      → key_of def.tree a ≡ key_of def.tree b → a ≡ b
+      → node_key def.tree a ≡ node_key def.tree b → a ≡ b
   -- compound and parallel nodes have a child that is no history node
   pub children : (p : ℕ) → IsParent def.tree p
       → (n : ℕ) × IsChild def.tree n p × ¬ IsHistory def.tree n

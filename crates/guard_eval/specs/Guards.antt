@@ -14,7 +14,7 @@ Truth = Result Bool EvalFault
 
 -- the truth value of an expression that is read with these params
 abbrev pub test_value : Scope → Expr → Value → Truth
-test_value env expr params = truth_of (outcome (record env { params = params }) expr)
+test_value scope expr params = truth_of (outcome (record scope { params = params }) expr)
 
 -- from left to right, up to the first that is false or a fault
 abbrev pub all_of : List Truth → Truth
@@ -32,12 +32,12 @@ any_of (Ok false ∷ parts) = any_of parts
 
 -- what a guard gives whose parts give these
 abbrev pub form_value : Scope → List ℕ → GuardUse-F Truth → Truth
-form_value env nodes (GuardUse-F.Test expr params) = test_value env expr params
-form_value env nodes (GuardUse-F.And parts) = all_of parts
-form_value env nodes (GuardUse-F.Or parts) = any_of parts
-form_value env nodes (GuardUse-F.Not part) = one part (λ holds. Ok (not holds))
-form_value env nodes (GuardUse-F.In node) = Ok (list_any (λ active. node == active) nodes)
+form_value scope nodes (GuardUse-F.Test expr params) = test_value scope expr params
+form_value scope nodes (GuardUse-F.And parts) = all_of parts
+form_value scope nodes (GuardUse-F.Or parts) = any_of parts
+form_value scope nodes (GuardUse-F.Not part) = one part (λ holds. Ok (not holds))
+form_value scope nodes (GuardUse-F.In node) = Ok (list_any (λ active. node == active) nodes)
 
 -- whether a guard holds where these nodes are active, or its fault
 abbrev pub guard_value : Scope → List ℕ → GuardUse → Truth
-guard_value env nodes = fold-GuardUse Truth (form_value env nodes)
+guard_value scope nodes = fold-GuardUse Truth (form_value scope nodes)
