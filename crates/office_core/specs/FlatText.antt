@@ -54,9 +54,9 @@ transition_of keys member = do
   only_if (is_descriptor member.key) (record { descriptor = member.key; state = state })
 
 -- the transitions of a state, none where it has no `on`
-abbrev pub transitions_of : List (List ℕ) → Option OrderedJson → Option (List FlatTransition)
-transitions_of keys None = Some []
-transitions_of keys (Some on) = do
+abbrev pub flat_transitions_of : List (List ℕ) → Option OrderedJson → Option (List FlatTransition)
+flat_transitions_of keys None = Some []
+flat_transitions_of keys (Some on) = do
   members ← as_object on
   each_of (transition_of keys) members
 
@@ -64,7 +64,7 @@ transitions_of keys (Some on) = do
 abbrev pub state_of : List (List ℕ) → MemberParts → Option FlatState
 state_of keys member = do
   fields ← as_object_of (codes "on" ∷ []) member.value
-  transitions ← transitions_of keys (get (codes "on") fields)
+  transitions ← flat_transitions_of keys (get (codes "on") fields)
   only_if (is_state_key member.key) (record { key = member.key; transitions = transitions })
 
 -- a machine: an `id` that isn't empty, states, and the key of the initial one

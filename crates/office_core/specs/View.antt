@@ -35,7 +35,7 @@ without_first number [] = []
 without_first number (letter ∷ letters) =
     if nat_eq letter.actor number then letters else letter ∷ without_first number letters
 
--- the state of an actor after an event
+-- the state in which an event leaves the actor of this number, read from what the core keeps
 abbrev pub state_behind : List FlatMachine → List FlatActor → ℕ → Event → Option ℕ
 state_behind machines flat_actors number event = option_and_then
     (λ flat_actor. option_and_then

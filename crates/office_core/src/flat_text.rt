@@ -3,7 +3,7 @@
 ghost use Rattle.std.specs.Prelude.{◌≡◌, map, IfOk};
 ghost use Rattle.std.specs.Option.{option_copied};
 ghost use Rattle.ordered_json.specs.Words.{member_parts};
-ghost use Rattle.office_core.specs.FlatText.{ReadsOffice, office_in, machine_in, state_of, transitions_of, transition_of, each_of, is_state_key, is_descriptor, are_distinct};
+ghost use Rattle.office_core.specs.FlatText.{ReadsOffice, office_in, machine_in, state_of, flat_transitions_of, transition_of, each_of, is_state_key, is_descriptor, are_distinct};
 
 use crate::flat::{
     FlatMachine, FlatMachines, FlatState, FlatStates, FlatTransition, FlatTransitions,
@@ -130,7 +130,7 @@ fn read_transitions(
     places: &Places,
     on: Option<&OrderedJson>,
 ) -> Result<FlatTransitions, FlatFault>
-    ensures { ReadsOffice (transitions_of places.now (option_copied on.entry)) result }
+    ensures { ReadsOffice (flat_transitions_of places.now (option_copied on.entry)) result }
 {
     let Some(on) = on else {
         return Ok(Items::new(alloc));

@@ -208,7 +208,7 @@ fn are_caller_bytes(bytes: &[u8]) -> bool
         .all(|byte| matches!(byte, b'a'..=b'z' | b'0'..=b'9' | b'-'))
 }
 
-//// The number that the bytes spell in decimal, with no leading zero.
+/// The number that the bytes spell in decimal, with no leading zero.
 pub fn read_number(bytes: &[u8]) -> Result<u64, LineFault>
     ensures { ReadsLine (IsNumber bytes.now) result }
 {

@@ -16,7 +16,7 @@ use Rattle.office_run.specs.Lines.{is_feed, has_feed, with_first, ended_lines, r
 use Rattle.office_run.specs.Input.{Inflow, stream, IsEndedLine, IsLastLine, IsNextLine, IsTooMuch}
 use Rattle.office_run.specs.Script.{IsLine, AreRead}
 use Rattle.office_run.specs.Replies.{answer_line, office_after, answers, office_after_all}
-use Rattle.office_run.specs.Step.{Moment, Steps, AnswersLine, AnswersPart, RefusesPart}
+use Rattle.office_run.specs.Step.{RunState, Steps, AnswersLine, AnswersPart, RefusesPart}
 use Rattle.office_run.specs.Progress.{AreFeedless, AreEndedLines, AreAllLines, AreTakenLines, IsUnderWay}
 use Rattle.office_run.specs.Run.{IsPart, IsCutShort, Tells}
 use Rattle.office_run.proofs.InputLemmas.{by_test, prepend-both, prepend-nothing}
@@ -128,7 +128,7 @@ length-feeds lines line =
     ap length (with_feeds-push lines line) ∙ length-append (with_feeds lines) (line ++ line_feed ∷ []) ∙ ap (λ n. length (with_feeds lines) + n) (length-append line (line_feed ∷ []))
 
 -- before the first line
-pub under_way-start : (machines : List FlatMachine) (start now : Moment) → now.office ≡ empty_office → now.inflow.left ≡ start.inflow.left → now.inflow.taken ≡ start.inflow.taken → now.written ≡ start.written →
+pub under_way-start : (machines : List FlatMachine) (start now : RunState) → now.office ≡ empty_office → now.inflow.left ≡ start.inflow.left → now.inflow.taken ≡ start.inflow.taken → now.written ≡ start.written →
     now.inflow.input ≡ record { used = 0; pending = []; ended = false } → IsUnderWay machines start now
 under_way-start machines start now office left taken written input =
     let used : now.inflow.input.used ≡ 0 = ap (λ i. i.used) input in
@@ -178,7 +178,7 @@ taken-next lines first old new line taken next = either (open_lines lines first 
     })
 
 -- a line more
-pub under_way-line : (machines : List FlatMachine) (start old new : Moment) → IsUnderWay machines start old → AnswersLine machines old new → IsUnderWay machines start new
+pub under_way-line : (machines : List FlatMachine) (start old new : RunState) → IsUnderWay machines start old → AnswersLine machines old new → IsUnderWay machines start new
 under_way-line machines start old new way step =
     let bytes = step.bytes in
     let line = step.line in
@@ -252,10 +252,10 @@ taken_all lines input now none (inl ended) (inr seen) = absurd (false≢true (sy
 taken_all lines input now none (inr all) end = all_taken lines input now none all
 
 -- how far it has come, of an input that is told
-known_lines : (machines : List FlatMachine) (start now : Moment) (input : List ℕ) → start.inflow.left ≡ Some input → (way : IsUnderWay machines start now) → AreTakenLines way.lines (Some input) now.inflow
+known_lines : (machines : List FlatMachine) (start now : RunState) (input : List ℕ) → start.inflow.left ≡ Some input → (way : IsUnderWay machines start now) → AreTakenLines way.lines (Some input) now.inflow
 known_lines machines start now input told way = subst (λ left. AreTakenLines way.lines left now.inflow) told way.taken_lines
 
-pub ends-done : (machines : List FlatMachine) (start old new : Moment) (input : List ℕ) → start.inflow.left ≡ Some input → (way : IsUnderWay machines start old) → Steps machines (Some status.Done) old new → (taken : ℕ) →
+pub ends-done : (machines : List FlatMachine) (start old new : RunState) (input : List ℕ) → start.inflow.left ≡ Some input → (way : IsUnderWay machines start old) → Steps machines (Some status.Done) old new → (taken : ℕ) →
     Tells status.Done machines (record { input = input; taken = taken; printed = answers machines empty_office way.read })
 ends-done machines start old new input told way step taken =
     let all = taken_all way.lines input old.inflow way.feedless (known_lines machines start old input told way) step.0 in
@@ -278,7 +278,7 @@ cut_off lines seen input old behind count is whole counted =
     let front : take count input ≡ with_feeds lines ++ seen = ap (λ n. take n input) long ∙ ap (take (length (with_feeds lines ++ seen))) told.2 ∙ front_of (with_feeds lines ++ seen) told.0 in
     ap ended_lines front ∙ ended_lines-seen lines seen is.feedless is.no_feed
 
-pub ends-read_fault : (machines : List FlatMachine) (start old new : Moment) (input : List ℕ) → start.inflow.left ≡ Some input → (way : IsUnderWay machines start old) → Steps machines (Some status.ReadFault) old new →
+pub ends-read_fault : (machines : List FlatMachine) (start old new : RunState) (input : List ℕ) → start.inflow.left ≡ Some input → (way : IsUnderWay machines start old) → Steps machines (Some status.ReadFault) old new →
     Tells status.ReadFault machines (record { input = input; taken = new.inflow.taken - start.inflow.taken; printed = answers machines empty_office way.read })
 ends-read_fault machines start old new input told way step =
     let cut = step.0 in
@@ -290,7 +290,7 @@ ends-read_fault machines start old new input told way step =
     record { read = way.read; each = subst (λ ls. AreRead ls way.read) (sym lines) way.each; told = refl }
 
 -- the input is too long: behind the bytes that a run takes there is one more
-too_much : (machines : List FlatMachine) (start old : Moment) (after : Inflow) (input : List ℕ) → start.inflow.left ≡ Some input → (way : IsUnderWay machines start old) →
+too_much : (machines : List FlatMachine) (start old : RunState) (after : Inflow) (input : List ℕ) → start.inflow.left ≡ Some input → (way : IsUnderWay machines start old) →
     IsTooMuch old.inflow after → (MAX_INPUT < length input) × (ended_lines (take MAX_INPUT input) ≡ way.lines)
 too_much machines start old after input told way much =
     let taken = known_lines machines start old input told way in
@@ -305,7 +305,7 @@ too_much machines start old after input told way much =
     ∙ prepend-both (with_feeds way.lines ++ seen) more after.left) in
     (omega (arith, counted, ap length whole.2, length-append ((with_feeds way.lines ++ seen) ++ more) whole.0, length-append (with_feeds way.lines ++ seen) more, length-append (with_feeds way.lines) seen), lines)
 
-pub ends-long : (machines : List FlatMachine) (start old new : Moment) (input : List ℕ) → start.inflow.left ≡ Some input → (way : IsUnderWay machines start old) → Steps machines (Some status.InputLong) old new → (taken : ℕ) →
+pub ends-long : (machines : List FlatMachine) (start old new : RunState) (input : List ℕ) → start.inflow.left ≡ Some input → (way : IsUnderWay machines start old) → Steps machines (Some status.InputLong) old new → (taken : ℕ) →
     Tells status.InputLong machines (record { input = input; taken = taken; printed = answers machines empty_office way.read ++ TOO_LONG.now })
 ends-long machines start old new input told way step taken =
     let much = too_much machines start old new.inflow input told way step.0 in
@@ -341,7 +341,7 @@ all_part whole = (length whole, sym (ap (take (length whole)) (sym (append-nil w
 more_part : (a b : List ℕ) (count : ℕ) → IsPart (a ++ b) (a ++ take count b)
 more_part a b count = (length a + count, sym (take-append-add a b count))
 
-pub ends-memory : (machines : List FlatMachine) (start old : Moment) (input : List ℕ) → start.inflow.left ≡ Some input → (way : IsUnderWay machines start old) →
+pub ends-memory : (machines : List FlatMachine) (start old : RunState) (input : List ℕ) → start.inflow.left ≡ Some input → (way : IsUnderWay machines start old) →
     IsCutShort machines input (answers machines empty_office way.read)
 ends-memory machines start old input told way =
     so_far machines way.lines way.read old.inflow input (answers machines empty_office way.read)
@@ -349,7 +349,7 @@ ends-memory machines start old input told way =
     (inl (all_part (answers machines empty_office way.read)))
 
 -- where a write fails, a part of the answer stands behind the answers so far
-pub ends-write_fault : (machines : List FlatMachine) (start old new : Moment) (input before : List ℕ) → start.inflow.left ≡ Some input → start.written ≡ Some before → IsUnderWay machines start old →
+pub ends-write_fault : (machines : List FlatMachine) (start old new : RunState) (input before : List ℕ) → start.inflow.left ≡ Some input → start.written ≡ Some before → IsUnderWay machines start old →
     AnswersPart machines old new ⊎ RefusesPart old new → (printed : List ℕ) × (new.written ≡ Some (before ++ printed)) × IsCutShort machines input printed
 ends-write_fault machines start old new input before told known way = either
   where
@@ -385,7 +385,7 @@ ends-write_fault machines start old new input before told known way = either
           (inr ((too_much machines start old new.inflow input told way part.too_much).0, more_part front TOO_LONG.now part.count)),
     )
 
-so_written : (start old : Moment) (before told : List ℕ) → start.written ≡ Some before → old.written ≡ append_known start.written told → old.written ≡ Some (before ++ told)
+so_written : (start old : RunState) (before told : List ℕ) → start.written ≡ Some before → old.written ≡ append_known start.written told → old.written ≡ Some (before ++ told)
 so_written start old before told known is = is ∙ ap (λ w. append_known w told) known
 
 -- nothing was taken or printed
@@ -398,7 +398,7 @@ ends-at_once machines input = record {
 }
 
 -- what is printed at each end
-pub ends : (machines : List FlatMachine) (start old new : Moment) (end : Status) (input before : List ℕ) → start.inflow.left ≡ Some input → start.written ≡ Some before → IsUnderWay machines start old →
+pub ends : (machines : List FlatMachine) (start old new : RunState) (end : Status) (input before : List ℕ) → start.inflow.left ≡ Some input → start.written ≡ Some before → IsUnderWay machines start old →
     Steps machines (Some end) old new →
     (printed : List ℕ) × (new.written ≡ Some (before ++ printed)) × Tells end machines (record { input = input; taken = new.inflow.taken - start.inflow.taken; printed = printed })
 ends machines start old new status.Done input before told known way step =

@@ -8,8 +8,8 @@ use Rattle.office_run.specs.declared.status.Status.{Status}
 use Rattle.office_run.specs.declared.status.Status.TheVariants as status
 use Rattle.office_run.specs.Input.{Inflow, IsEndedLine, IsLastLine, IsNextLine, IsTooMuch}
 use Rattle.office_run.specs.Run.{WritesPart}
-use Rattle.office_run.specs.Status.{Faults, CountsFaults}
-use Rattle.office_run.specs.Step.{Moment, Steps}
+use Rattle.office_run.specs.Status.{StationFaults, CountsFaults}
+use Rattle.office_run.specs.Step.{RunState, Steps}
 
 -- a line that came next before a write has come next after it
 pub next-kept : (old mid new : Inflow) (line : List ℕ) → IsNextLine old mid line → new.input ≡ mid.input → new.left ≡ mid.left → IsNextLine old new line
@@ -41,19 +41,19 @@ kept old mid new much input left = record {
 }
 
 -- the same counts, of both ends
-pub same_faults : (old new : Faults) → new.reads ≡ old.reads → new.writes ≡ old.writes → new ≡ old
+pub same_faults : (old new : StationFaults) → new.reads ≡ old.reads → new.writes ≡ old.writes → new ≡ old
 same_faults old new reads writes =
-    let of : ℕ → ℕ → Faults = λ r w. record { reads = r; writes = w } in
+    let of : ℕ → ℕ → StationFaults = λ r w. record { reads = r; writes = w } in
     ap (λ r. of r new.writes) reads ∙ ap (λ w. of old.reads w) writes
 
 -- a text is written, or the write failed: the counts that the end blames rose
-pub counts-print : {A B : Type 0} (result end : Status) (old new : Faults) → ((f : Faults) → CountsFaults end f f) → new.reads ≡ old.reads →
+pub counts-print : {A B : Type 0} (result end : Status) (old new : StationFaults) → ((f : StationFaults) → CountsFaults end f f) → new.reads ≡ old.reads →
     ((result ≡ end) × A × (new.writes ≡ old.writes)) ⊎ ((result ≡ status.WriteFault) × B × Rose old.writes new.writes) → CountsFaults result old new
 counts-print result end old new quiet reads (inl whole) =
     subst (λ r. CountsFaults r old new) (sym whole.0) (subst (λ f. CountsFaults end old f) (sym (same_faults old new reads whole.2)) (quiet old))
 counts-print result end old new quiet reads (inr part) = subst (λ r. CountsFaults r old new) (sym part.0) (reads, part.2)
 
-pub steps-too_much : {A B : Type 0} (machines : List FlatMachine) (old new : Moment) (mid : Inflow) (written : Option (List ℕ)) (result : Status) →
+pub steps-too_much : {A B : Type 0} (machines : List FlatMachine) (old new : RunState) (mid : Inflow) (written : Option (List ℕ)) (result : Status) →
     IsTooMuch old.inflow mid → new.inflow.input ≡ mid.input → new.inflow.left ≡ mid.left → written ≡ old.written →
     ((result ≡ status.InputLong) × (new.written ≡ append_known written TOO_LONG.now) × A) ⊎ ((result ≡ status.WriteFault) × WritesPart written new.written TOO_LONG.now × B) → Steps machines (Some result) old new
 steps-too_much machines old new mid written result much input left same (inl whole) =

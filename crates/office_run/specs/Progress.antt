@@ -9,7 +9,7 @@ use Rattle.office_run.specs.Lines.{has_feed, with_feeds}
 use Rattle.office_run.specs.Input.{Inflow, stream, taken_count}
 use Rattle.office_run.specs.Script.{AreRead}
 use Rattle.office_run.specs.Replies.{answers, office_after_all}
-use Rattle.office_run.specs.Step.{Moment}
+use Rattle.office_run.specs.Step.{RunState}
 
 -- no line has a line feed in it
 abbrev pub AreFeedless : List (List ℕ) → Type 0
@@ -38,7 +38,7 @@ abbrev pub AreTakenLines : List (List ℕ) → Option (List ℕ) → Inflow → 
 AreTakenLines lines first now = AreEndedLines lines first now ⊎ AreAllLines lines first now
 
 -- these lines were taken and answered
-pub record IsUnderWay (machines : List FlatMachine) (start now : Moment) : Type 0 where
+pub record IsUnderWay (machines : List FlatMachine) (start now : RunState) : Type 0 where
   pub lines : List (List ℕ)
   pub read : List Line
   pub each : AreRead lines read

@@ -29,7 +29,7 @@ pub record Transcript : Type 0 where
   pub printed : List ℕ
 
 -- a whole run: its words, the bytes of the definitions, and what passes between it and its station
-pub record Run : Type 0 where
+pub record WholeRun : Type 0 where
   pub words : List (List ℕ)
   pub definitions : Option (List ℕ)
   pub exchange : Exchange
@@ -114,7 +114,7 @@ Prints status words text t =
     ⊎ (IsSome (command_of words) × PrintsInForm status text t)
 
 -- the same, where the sources and the sink tell their bytes
-abbrev pub Serves : Status → Run → Type 0
+abbrev pub Serves : Status → WholeRun → Type 0
 Serves status run =
     (text input before : List ℕ) → run.definitions ≡ Some text →
     run.exchange.input ≡ Some input → run.exchange.before ≡ Some before →

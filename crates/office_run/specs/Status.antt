@@ -16,12 +16,12 @@ code_of Memory = EXIT_MEMORY
 code_of InputLong = EXIT_INPUT_LONG
 
 -- the counts of faults of a station: of its input and of its output
-pub record Faults : Type 0 where
+pub record StationFaults : Type 0 where
   pub reads : ℕ
   pub writes : ℕ
 
 -- the count that an end blames rose, and no other moved
-abbrev pub CountsFaults : Status → Faults → Faults → Type 0
+abbrev pub CountsFaults : Status → StationFaults → StationFaults → Type 0
 CountsFaults ReadFault old new = Rose old.reads new.reads × (new.writes ≡ old.writes)
 CountsFaults WriteFault old new = (new.reads ≡ old.reads) × Rose old.writes new.writes
 CountsFaults Done old new = new ≡ old
@@ -31,14 +31,14 @@ CountsFaults Memory old new = new ≡ old
 CountsFaults InputLong old new = new ≡ old
 
 -- where the run goes on no count moved
-abbrev pub CountsStep : Option Status → Faults → Faults → Type 0
+abbrev pub CountsStep : Option Status → StationFaults → StationFaults → Type 0
 CountsStep None old new = new ≡ old
 CountsStep (Some status) old new = CountsFaults status old new
 
 -- the counts of faults of a run: of the source of the definitions, and of the station
 pub record RunFaults : Type 0 where
   pub definitions : ℕ
-  pub station : Faults
+  pub station : StationFaults
 
 -- the same of a run: where something couldn't be read, it was the definitions or the input
 abbrev pub CountsRun : Status → RunFaults → RunFaults → Type 0

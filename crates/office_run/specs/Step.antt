@@ -13,20 +13,20 @@ use Rattle.office_run.specs.Script.{IsLine}
 use Rattle.office_run.specs.Replies.{answer_line, office_after}
 
 -- the office and its outside before and after a step
-pub record Moment : Type 0 where
+pub record RunState : Type 0 where
   pub office : Office
   pub inflow : Inflow
   pub written : Option (List ℕ)
 
 -- this line came next, as what it was read
-pub record TakesLine (old new : Moment) (bytes : List ℕ) (line : Line) : Type 0 where
+pub record TakesLine (old new : RunState) (bytes : List ℕ) (line : Line) : Type 0 where
   pub next : IsNextLine old.inflow new.inflow bytes
   pub is_line : IsLine bytes line
   pub counted : KeepsCount old.inflow new.inflow
   pub limited : taken_count new.inflow.input ≤ MAX_INPUT
 
 -- the line that came next is answered, and its answer written
-pub record AnswersLine (machines : List FlatMachine) (old new : Moment) : Type 0 where
+pub record AnswersLine (machines : List FlatMachine) (old new : RunState) : Type 0 where
   pub bytes : List ℕ
   pub line : Line
   pub takes : TakesLine old new bytes line
@@ -34,7 +34,7 @@ pub record AnswersLine (machines : List FlatMachine) (old new : Moment) : Type 0
   pub written : new.written ≡ append_known old.written (answer_line machines old.office line)
 
 -- a front part of the answer to the line that came next is written
-pub record AnswersPart (machines : List FlatMachine) (old new : Moment) : Type 0 where
+pub record AnswersPart (machines : List FlatMachine) (old new : RunState) : Type 0 where
   pub bytes : List ℕ
   pub line : Line
   pub takes : TakesLine old new bytes line
@@ -42,7 +42,7 @@ pub record AnswersPart (machines : List FlatMachine) (old new : Moment) : Type 0
   pub written : new.written ≡ append_known old.written (take count (answer_line machines old.office line))
 
 -- a front part of what is said of an input that is too long is written
-pub record RefusesPart (old new : Moment) : Type 0 where
+pub record RefusesPart (old new : RunState) : Type 0 where
   pub too_much : IsTooMuch old.inflow new.inflow
   pub count : ℕ
   pub written : new.written ≡ append_known old.written (take count TOO_LONG.now)
@@ -53,7 +53,7 @@ IsBounded old new = new.taken + taken_count old.input ≤ old.taken + (MAX_INPUT
 
 -- A line is answered and the run goes on. Or it ends: at the end of the input; where a line or the rest can't be read, or its
 -- answer not be written; or where the input is too long.
-abbrev pub Steps : List FlatMachine → Option Status → Moment → Moment → Type 0
+abbrev pub Steps : List FlatMachine → Option Status → RunState → RunState → Type 0
 Steps machines None old new = AnswersLine machines old new
 Steps machines (Some Done) old new =
     (IsAtEnd (stream old.inflow) ⊎ (old.inflow.input.ended ≡ true)) × (new.written ≡ old.written)

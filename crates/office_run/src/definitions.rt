@@ -1,7 +1,7 @@
 //! The definitions: their bytes are taken from a source, and read as an office.
 
 ghost use Rattle.std.specs.Prelude.{◌≡◌, ◌+◌, ◌≤◌, ◌↔◌, Err, IfOk, IsTrue};
-ghost use Rattle.office_run.specs.Definitions.{CountsSource, ReadsDefinitions, TakesText, ReadsText, most_taken};
+ghost use Rattle.office_run.specs.Definitions.{CountsSource, ReadsDefinitions, TakesText, ReadsText};
 
 use crate::input::{new_piece, read_piece};
 use office_core::{FlatFault, FlatMachines, read_flat};
@@ -11,8 +11,8 @@ use std::alloc::{AllocError, Global};
 use thiserror::Error;
 use xs_outside::{Got, Source};
 
-/// So many bytes are taken at most: one more than a text may have shows that it is too long.
-const MOST_TAKEN: usize = MAX_TEXT + 1;
+/// The most bytes that are taken of definitions: one more than a text may have shows that it is too long.
+pub const MAX_DEFINITIONS_TAKEN: usize = MAX_TEXT + 1;
 
 /// Why there are no definitions.
 #[derive(Clone, Copy, Debug, PartialEq, Eq, Error)]
@@ -43,7 +43,7 @@ pub fn read_definitions<S: Source>(
     source: &mut S,
 ) -> Result<FlatMachines, DefinitionsFault>
     ensures reads { ReadsDefinitions result (S.left source.old) }
-    ensures taken { S.taken source.new ≤ S.taken source.old + most_taken }
+    ensures taken { S.taken source.new ≤ S.taken source.old + MAX_DEFINITIONS_TAKEN }
     ensures faults { CountsSource result (S.read_faults source.old) (S.read_faults source.new) }
 {
     let text = take_text(alloc, source)?;
@@ -79,14 +79,14 @@ fn is_memory(fault: &JsonFault) -> bool
 fn take_text<S: Source>(alloc: Global, source: &mut S) -> Result<Vec<u8>, DefinitionsFault>
     ensures text { IfOk result (λ text.
         TakesText text.items (S.left source.old) (S.left source.new)) }
-    ensures taken { S.taken source.new ≤ S.taken source.old + most_taken }
+    ensures taken { S.taken source.new ≤ S.taken source.old + MAX_DEFINITIONS_TAKEN }
     ensures not_refused { result ≡ Err DefinitionsFault.Refused → ⊥ }
     ensures faults { CountsSource result (S.read_faults source.old) (S.read_faults source.new) }
 {
     let mut text = Vec::new(alloc);
     let mut piece = new_piece(alloc)?;
-    'pieces: while text.len() < MOST_TAKEN {
-        let room = (MOST_TAKEN - text.len()).min(piece.len());
+    'pieces: while text.len() < MAX_DEFINITIONS_TAKEN {
+        let room = (MAX_DEFINITIONS_TAKEN - text.len()).min(piece.len());
         match read_piece(source, &mut piece, room) {
             Got::Bytes(count) => text.extend_from_slice(&piece[..count])?,
             Got::End => return Ok(text),

@@ -34,7 +34,7 @@ pub enum Next {
     Memory,
 }
 
-//// What came of asking the source.
+/// What came of asking the source.
 #[derive(Clone, Copy, Debug, PartialEq, Eq)]
 enum Fill {
     More,

@@ -13,6 +13,7 @@ mod status;
 mod tests;
 
 pub use command::{Command, WordsFault, words};
+pub use definitions::MAX_DEFINITIONS_TAKEN;
 pub use input::MAX_INPUT;
 pub use program::{REFUSAL, TOO_LONG, USAGE, run};
 pub use status::{

@@ -13,7 +13,7 @@ ghost use Rattle.office_run.specs.Input.{taken_count};
 ghost use Rattle.office_run.specs.LineBuffer.{Holds};
 ghost use Rattle.office_run.specs.Script.{IsLine};
 ghost use Rattle.office_run.specs.Replies.{answer_line, office_after};
-ghost use Rattle.office_run.specs.Definitions.{most_taken};
+ghost use Rattle.office_run.specs.declared.definitions.TheConstants.{MAX_DEFINITIONS_TAKEN};
 ghost use Rattle.office_run.specs.Command.{command_of};
 ghost use Rattle.office_run.specs.Step.{Steps, IsBounded};
 ghost use Rattle.office_run.specs.Run.{Serves, Converses, WritesPart};
@@ -81,7 +81,7 @@ pub fn run<S: Source, W: Station>(
         }) }
 
     // It takes no more than it may.
-    ensures definitions_taken { S.taken defs.new ≤ S.taken defs.old + most_taken }
+    ensures definitions_taken { S.taken defs.new ≤ S.taken defs.old + MAX_DEFINITIONS_TAKEN }
     ensures input_taken { W.taken result.station ≤ W.taken station + (MAX_INPUT + 1) }
 {
     let mut station = station;
@@ -127,7 +127,7 @@ fn serve<S: Source, W: Both>(
             writes = W.write_faults station.new;
           };
         }) }
-    ensures definitions_taken { S.taken defs.new ≤ S.taken defs.old + most_taken }
+    ensures definitions_taken { S.taken defs.new ≤ S.taken defs.old + MAX_DEFINITIONS_TAKEN }
     ensures input_taken { W.taken station.new ≤ W.taken station.old + (MAX_INPUT + 1) }
 {
     if !is_run(words) {

@@ -1,6 +1,9 @@
 //! Whole scripts with what they print, and how a run ends where a call of the outside fails.
 
-use crate::run;
+use crate::{
+    EXIT_DONE, EXIT_INPUT_LONG, EXIT_MEMORY, EXIT_READ_FAULT, EXIT_REFUSED, EXIT_USAGE,
+    EXIT_WRITE_FAULT, MAX_INPUT, TOO_LONG, run,
+};
 use std::alloc::Global;
 use std::rc::RcStr;
 use std::test::Fail;
@@ -160,4 +163,23 @@ fn a_line_is_answered_before_the_next_is_read(rt: HostRuntime) -> Result<(), Fai
     assert_eq!(rt; ended.status, 5);
     assert_eq!(rt; ended.station.output(), b"400 line\n".as_slice());
     Ok(())
+}
+
+// Definitions cite these constants, so no clause says what they are.
+#[test]
+fn constants_are_those_of_the_program(rt: HostRuntime) {
+    assert_eq!(rt; MAX_INPUT, 1_073_741_824);
+    assert_eq!(rt; TOO_LONG, "input long\n");
+    let statuses = [
+        (EXIT_DONE, 0),
+        (EXIT_USAGE, 2),
+        (EXIT_REFUSED, 3),
+        (EXIT_READ_FAULT, 5),
+        (EXIT_WRITE_FAULT, 6),
+        (EXIT_MEMORY, 8),
+        (EXIT_INPUT_LONG, 9),
+    ];
+    for (status, number) in &statuses {
+        assert_eq!(rt; *status, *number);
+    }
 }

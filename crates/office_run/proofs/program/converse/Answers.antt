@@ -2,8 +2,8 @@ use Rattle.std.proofs.Common.{List, [], Some, refl, subst, sym, ap, ◌∙◌}
 use Rattle.std.proofs.lemmas.List.{append-nil}
 use Rattle.office_core.specs.declared.flat.FlatMachine.{FlatMachine}
 use Rattle.office_run.specs.declared.status.Status.{Status}
-use Rattle.office_run.specs.Status.{Faults, CountsFaults}
-use Rattle.office_run.specs.Step.{Moment, Steps}
+use Rattle.office_run.specs.Status.{StationFaults, CountsFaults}
+use Rattle.office_run.specs.Step.{RunState, Steps}
 use Rattle.office_run.proofs.ProgressLemmas.{under_way-start, under_way-line, ends, ends-at_once}
 use Rattle.office_run.proofs.program.converse.Goals as goal
 
@@ -31,12 +31,12 @@ returns-in_default-clause-converses g c = λ input before told known.
 pub returns-in-Some-clause-converses : goal.returns-in-Some-clause-converses
 returns-in-Some-clause-converses g c = λ input before told known.
     let way = c.lines.invariant in
-    let old : Moment = record {
+    let old : RunState = record {
       office = c.lines.core.office;
       inflow = record { input = c.lines.input; left = g.W.Source.left c.lines.station; taken = g.W.Source.taken c.lines.station };
       written = g.W.Sink.written c.lines.station;
     } in
-    let new : Moment = record {
+    let new : RunState = record {
       office = c.take_line.new.core.office;
       inflow = record {
         input = c.take_line.new.input;
@@ -49,12 +49,12 @@ returns-in-Some-clause-converses g c = λ input before told known.
 
 pub returns-in-Some-clause-form : goal.returns-in-Some-clause-form
 returns-in-Some-clause-form g c = λ usage.
-    let old : Moment = record {
+    let old : RunState = record {
       office = c.lines.core.office;
       inflow = record { input = c.lines.input; left = g.W.Source.left c.lines.station; taken = g.W.Source.taken c.lines.station };
       written = g.W.Sink.written c.lines.station;
     } in
-    let new : Moment = record {
+    let new : RunState = record {
       office = c.take_line.new.core.office;
       inflow = record {
         input = c.take_line.new.input;
@@ -67,8 +67,8 @@ returns-in-Some-clause-form g c = λ usage.
 
 pub returns-in-Some-clause-faults : goal.returns-in-Some-clause-faults
 returns-in-Some-clause-faults g c =
-    let new : Faults = record {
+    let new : StationFaults = record {
       reads = g.W.Source.read_faults c.take_line.new.station;
       writes = g.W.Sink.write_faults c.take_line.new.station;
     } in
-    subst (λ (old : Faults). CountsFaults c.in-Some.status old new) c.lines.invariant.faults c.in-Some.ensures.faults
+    subst (λ (old : StationFaults). CountsFaults c.in-Some.status old new) c.lines.invariant.faults c.in-Some.ensures.faults

@@ -2,13 +2,13 @@ use Rattle.std.proofs.Common.{◌≡◌, ◌-◌, ℕ, List, map, Some, subst, s
 use Rattle.std.specs.Rc.{rc_str_bytes}
 use Rattle.office_core.specs.declared.flat.FlatMachine.{FlatMachine}
 use Rattle.office_run.specs.Definitions.{IsAccepted}
-use Rattle.office_run.specs.Run.{Run}
+use Rattle.office_run.specs.Run.{WholeRun}
 use Rattle.office_run.proofs.ServeLemmas.{serves-answers, serves-refusal}
 use Rattle.office_run.proofs.program.serve.Goals as goal
 
 pub returns-in-Ok-clause-served : goal.returns-in-Ok-clause-served
 returns-in-Ok-clause-served g c =
-    let run : Run = record {
+    let run : WholeRun = record {
       words = map rc_str_bytes c.args.words.now;
       definitions = g.S.Source.left c.args.defs.now;
       exchange = record {
@@ -27,7 +27,7 @@ returns-in-Ok-clause-form g c = λ some usage. c.converse.ensures.form usage
 
 pub returns-in-Err-Refused-clause-served : goal.returns-in-Err-Refused-clause-served
 returns-in-Err-Refused-clause-served g c =
-    let run : Run = record {
+    let run : WholeRun = record {
       words = map rc_str_bytes c.args.words.now;
       definitions = g.S.Source.left c.args.defs.now;
       exchange = record {
