@@ -6,7 +6,7 @@ use Rattle.std.specs.Option.{option_map_or, option_and_then, option_or}
 use Rattle.std.specs.Result.{result_unwrap_or}
 use Rattle.std.specs.Str.{bytes_eq}
 use Rattle.std.proofs.lemmas.Bool.{eqb-true}
-use Rattle.ordered_json.proofs.Strings.{is_below}
+use Rattle.ordered_json.proofs.StringLemmas.{is_below}
 use Rattle.std.proofs.lemmas.Slice.Eq.{bytes_eq-Decides}
 use Rattle.xs_model.specs.declared.value.Value.{Value}
 use Rattle.office_types.specs.declared.entry.Entry.{Entry}

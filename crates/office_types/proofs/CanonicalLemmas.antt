@@ -21,19 +21,19 @@ use Rattle.std.proofs.lemmas.Grind.{flat_map-append}
 use Rattle.std.proofs.lemmas.Slice.Eq.{bytes_eq-Decides}
 use Rattle.std.proofs.lemmas.Str.Parse.{IsDigitsTest, IsNumeralModel, numerals_by_value}
 use Rattle.json.specs.Print.{escape, escape_byte, escape_letter, quoted}
-use Rattle.ordered_json.specs.Grammar.{AreChars, AreDigits, AreElements, AreMembers, Char, Elements, IsChar, IsTree, IsWhole, Members, Tree, are_hex, array, boolean, coded, colon, element, escape_value, escaped, is_decimal, is_high_surrogate, is_low_surrogate, lead, member, no_elements, no_members, null, number, object, paired, plain, print, print_char, print_chars, print_elements, print_members, print_string, signed, string, unit_value}
-use Rattle.ordered_json.specs.Meaning.{ElementsTaken, IsTaken, MembersTaken, char_value, content, fits, has_key, int_value, items_at, magnitude, members_at, value_at}
+use Rattle.ordered_json.specs.Grammar.{AreChars, AreDigits, AreElements, AreMembers, Char, Elements, Gap, IsChar, IsTree, IsWhole, Members, Tree, are_hex, array, boolean, coded, element, escape_value, escaped, is_decimal, is_high_surrogate, is_low_surrogate, member, no_elements, no_members, null, number, object, paired, plain, print, print_char, print_chars, print_colon, print_elements, print_members, print_separator, print_string, string, unit_value, with_minus}
+use Rattle.ordered_json.specs.Meaning.{ElementsTaken, IsTaken, MembersTaken, char_value, fits, has_key, int_value, items_at, magnitude, members_at, string_content, value_at}
 use Rattle.ordered_json.specs.declared.json.Member.{Member, Member-F, out-roll-Member}
 use Rattle.ordered_json.specs.declared.json.OrderedJson.{OrderedJson}
 use Rattle.ordered_json.specs.Words.{member_of}
-use Rattle.ordered_json.proofs.Keys.{bytes_eq-flip}
-use Rattle.ordered_json.proofs.Strings.{and_true, above, below, encode_one, encode_two, encode_three, encode_four, is_above, is_below}
+use Rattle.ordered_json.proofs.KeyLemmas.{bytes_eq-flip}
+use Rattle.ordered_json.proofs.StringLemmas.{and_true, above, below, encode_one, encode_two, encode_three, encode_four, is_above, is_below}
 use Rattle.xs_model.specs.declared.value.Value.{Value, every_here-Value, out-roll-Value}
 use Rattle.xs_model.specs.declared.value.Value.TheOpen.{Value-F}
 use Rattle.xs_model.specs.declared.value.Value.TheVariants as value
 use Rattle.xs_model.specs.declared.value.Value.TheVariants.{rolls-Null, rolls-Bool, rolls-Int, rolls-Text, rolls-List, rolls-Map}
 use Rattle.xs_model.specs.declared.value.Value.TheViews.{roll-Value}
-use Rattle.xs_model.specs.Compact.{compact_text, deepest, keyed_text, nesting}
+use Rattle.xs_model.specs.Compact.{compact_text, greatest_depth, keyed_text, nesting}
 use Rattle.xs_model.specs.Rising.{key_cmp, put}
 use Rattle.xs_model.proofs.CompactLemmas.{compact-List, compact-Map}
 use Rattle.xs_model.proofs.PartLemmas.{Parts, by_parts, parts_every}
@@ -154,18 +154,18 @@ canonical_right c is = by_size (nat_lt c 128) refl where
 -- the characters of a text as a writer spells them
 pub record Spells (text : List ℕ) (chars : List Char) : Type 0 where
   pub are : AreChars chars
-  pub content' : content chars ≡ text
+  pub content : string_content chars ≡ text
   pub prints : print_chars chars ≡ escape text
 
 canonical_chars : (cs : List ℕ) → scalars cs ≡ true → Spells (encodes cs) (map canonical_char cs)
-canonical_chars [] all = record { are = tt; content' = refl; prints = refl }
+canonical_chars [] all = record { are = tt; content = refl; prints = refl }
 canonical_chars (c ∷ cs) all =
     let both = and_true (scalar c) (scalars cs) all in
     let head = canonical_right c both.0 in
     let rest = canonical_chars cs both.1 in
     record {
       are = (head.is, rest.are);
-      content' = ap (λ n. encode_utf8 n ++ content (map canonical_char cs)) head.value ∙ ap (λ l. encode_utf8 c ++ l) rest.content';
+      content = ap (λ n. encode_utf8 n ++ string_content (map canonical_char cs)) head.value ∙ ap (λ l. encode_utf8 c ++ l) rest.content;
       prints = ap (λ l. l ++ print_chars (map canonical_char cs)) head.prints ∙ ap (λ l. escape (encode_utf8 c) ++ l) rest.prints
           ∙ sym (flat_map-append escape_byte (encode_utf8 c) (encodes cs));
     }
@@ -222,10 +222,10 @@ pub record Canonical (x : Value) : Type 0 where
   pub taken : (depth : ℕ) → depth + nesting x ≤ 64 → IsTaken depth tree
   pub means : (place : ℕ) → json_value (value_at place tree) ≡ x
 
-number_tree : (minus : Bool) (n : ℕ) (z : ℤ) → n < 2 ^ 64 → fits minus n ≡ true → int_value minus n ≡ z → signed minus (decimal n) ≡ signed_decimal z → Canonical (value.Int z)
+number_tree : (minus : Bool) (n : ℕ) (z : ℤ) → n < 2 ^ 64 → fits minus n ≡ true → int_value minus n ≡ z → with_minus minus (decimal n) ≡ signed_decimal z → Canonical (value.Int z)
 number_tree minus n z small fit is text = record {
   tree = number minus (decimal n) [] [];
-  prints = append-nil (signed minus (decimal n)) ∙ text ∙ sym (compact-Int z);
+  prints = append-nil (with_minus minus (decimal n)) ∙ text ∙ sym (compact-Int z);
   is = (whole_decimal n small, tt, tt);
   taken = λ depth shallow. (refl, refl, ap (fits minus) (magnitude-decimal n small) ∙ fit);
   means = λ place. json-Int place (int_value minus (magnitude (decimal n))) ∙ ap (λ m. value.Int (int_value minus m)) (magnitude-decimal n small) ∙ ap value.Int is;
@@ -243,7 +243,7 @@ text_tree text is =
       prints = ap (λ l. 34 ∷ (l ++ 34 ∷ [])) chars.1.prints ∙ sym (compact-Text text);
       is = chars.1.are;
       taken = λ depth shallow. tt;
-      means = λ place. json-Text place (content chars.0) ∙ ap value.Text chars.1.content';
+      means = λ place. json-Text place (string_content chars.0) ∙ ap value.Text chars.1.content;
     }
 
 -- texts, each but the first after a comma
@@ -259,6 +259,10 @@ first_text : (texts : List (List ℕ)) → items_text [] texts ≡ join_with_byt
 first_text [] = refl
 first_text (text ∷ texts) = sym (joined_text text texts)
 
+-- no white space
+abbrev no_gap : Gap
+no_gap = record { before = []; after = [] }
+
 -- one piece after a comma, and the others, before a closing byte
 piece : (comma text rest : List ℕ) (byte : ℕ) → (comma ++ []) ++ (text ++ (rest ++ byte ∷ [])) ≡ (comma ++ (text ++ rest)) ++ byte ∷ []
 piece comma text rest byte = simp (append_assoc, append-nil)
@@ -273,11 +277,11 @@ max_more : (ds : List ℕ) (a b : ℕ) → a ≤ b → fold max a ds ≤ fold ma
 max_more [] a b small = small
 max_more (d ∷ ds) a b small = max_more ds (max a d) (max b d) (omega arith)
 
-deepest_first : (d : ℕ) (ds : List ℕ) → d ≤ deepest (d ∷ ds)
-deepest_first d ds = let least = max_least ds (max 0 d) in omega arith
+greatest_first : (d : ℕ) (ds : List ℕ) → d ≤ greatest_depth (d ∷ ds)
+greatest_first d ds = let least = max_least ds (max 0 d) in omega arith
 
-deepest_rest : (d : ℕ) (ds : List ℕ) → deepest ds ≤ deepest (d ∷ ds)
-deepest_rest d ds = max_more ds 0 (max 0 d) (omega arith)
+greatest_rest : (d : ℕ) (ds : List ℕ) → greatest_depth ds ≤ greatest_depth (d ∷ ds)
+greatest_rest d ds = max_more ds 0 (max 0 d) (omega arith)
 
 cons_is : {X : Type 0} (x y : X) (xs ys : List X) → x ≡ y → xs ≡ ys → x ∷ xs ≡ y ∷ ys
 cons_is x y xs ys head rest = ap (λ z. z ∷ xs) head ∙ ap (λ zs. y ∷ zs) rest
@@ -289,7 +293,7 @@ pub record CanonicalItems (xs : List Value) : Type 0 where
   pub elements : Elements
   pub prints : (comma : List ℕ) → print_elements comma elements ≡ items_text comma (map compact_text xs) ++ 93 ∷ []
   pub are : AreElements elements
-  pub taken : (depth : ℕ) → depth + deepest (map nesting xs) ≤ 64 → ElementsTaken depth elements
+  pub taken : (depth : ℕ) → depth + greatest_depth (map nesting xs) ≤ 64 → ElementsTaken depth elements
   pub means : (place : ℕ) (comma : List ℕ) → map json_value (items_at place comma elements) ≡ xs
 
 canonical_items : (xs : List Value) → AllByRecursion Canonical xs → CanonicalItems xs
@@ -304,15 +308,15 @@ canonical_items (x ∷ xs) all =
     let head = all.0 in
     let rest = canonical_items xs all.1 in
     record {
-      elements = element [] [] head.tree rest.elements;
+      elements = element no_gap head.tree rest.elements;
       prints = λ comma.
           ap (λ l. (comma ++ []) ++ (print head.tree ++ l)) (rest.prints (44 ∷ []))
           ∙ ap (λ l. (comma ++ []) ++ (l ++ (items_text (44 ∷ []) (map compact_text xs) ++ 93 ∷ []))) head.prints
           ∙ piece comma (compact_text x) (items_text (44 ∷ []) (map compact_text xs)) 93;
-      are = (tt, tt, head.is, rest.are);
+      are = ((tt, tt), head.is, rest.are);
       taken = λ depth shallow.
-          let a = deepest_first (nesting x) (map nesting xs) in
-          let b = deepest_rest (nesting x) (map nesting xs) in
+          let a = greatest_first (nesting x) (map nesting xs) in
+          let b = greatest_rest (nesting x) (map nesting xs) in
           (head.taken depth (omega arith), rest.taken depth (omega arith));
       means = λ place comma. cons_is _ _ _ _ (head.means _) (rest.means _ (44 ∷ []));
     }
@@ -325,7 +329,7 @@ list_tree xs all =
       prints = ap (λ l. 91 ∷ l) (items.prints []) ∙ ap (λ l. 91 ∷ (l ++ 93 ∷ [])) (first_text (map compact_text xs)) ∙ sym (compact-List xs);
       is = items.are;
       taken = λ depth shallow.
-          let deep : nesting (value.List xs) ≡ suc (deepest (map nesting xs)) = nesting-List xs in
+          let deep : nesting (value.List xs) ≡ suc (greatest_depth (map nesting xs)) = nesting-List xs in
           (omega arith, items.taken (suc depth) (omega arith));
       means = λ place. json-List place (items_at (place + 1) [] items.elements) ∙ ap value.List (items.means (place + 1) []);
     }
@@ -337,7 +341,7 @@ pub record CanonicalMembers (ms : List (List ℕ × Value)) : Type 0 where
   pub members : Members
   pub prints : (comma : List ℕ) → print_members comma members ≡ items_text comma (map keyed_text ms) ++ 125 ∷ []
   pub are : AreMembers members
-  pub taken : (depth : ℕ) (keys : List (List ℕ)) → depth + deepest (map (λ (m : List ℕ × Value). nesting m.1) ms) ≤ 64
+  pub taken : (depth : ℕ) (keys : List (List ℕ)) → depth + greatest_depth (map (λ (m : List ℕ × Value). nesting m.1) ms) ≤ 64
       → AllByRecursion (λ (k : List ℕ). AllByRecursion (λ l. key_cmp k l ≡ Less) (keys_of ms)) keys → MembersTaken depth keys members
   pub means : (place : ℕ) (comma : List ℕ) → map json_member (members_at place comma members) ≡ ms
 
@@ -373,25 +377,25 @@ canonical_members (m ∷ ms) all rise =
     let head = all.0.1 in
     let rest = canonical_members ms all.1 rise.1 in
     record {
-      members = member [] [] chars.0 [] [] head.tree rest.members;
+      members = member no_gap (record { chars = chars.0; gap = no_gap }) head.tree rest.members;
       prints = λ comma.
           ap (λ l. (comma ++ []) ++ (print_string chars.0 ++ (58 ∷ (print head.tree ++ l)))) (rest.prints (44 ∷ []))
           ∙ ap (λ l. (comma ++ []) ++ (print_string chars.0 ++ (58 ∷ (l ++ (items_text (44 ∷ []) (map keyed_text ms) ++ 125 ∷ []))))) head.prints
           ∙ ap (λ l. (comma ++ []) ++ ((34 ∷ (l ++ 34 ∷ [])) ++ (58 ∷ (compact_text m.1 ++ (items_text (44 ∷ []) (map keyed_text ms) ++ 125 ∷ []))))) chars.1.prints
           ∙ ap (λ l. (comma ++ []) ++ l) (sym (append_assoc (quoted m.0) (58 ∷ compact_text m.1) (items_text (44 ∷ []) (map keyed_text ms) ++ 125 ∷ [])))
           ∙ piece comma (keyed_text m) (items_text (44 ∷ []) (map keyed_text ms)) 125;
-      are = (tt, tt, chars.1.are, tt, tt, head.is, rest.are);
+      are = ((tt, tt), (chars.1.are, (tt, tt)), head.is, rest.are);
       taken = λ depth keys shallow below.
-          let a = deepest_first (nesting m.1) (map (λ (n : List ℕ × Value). nesting n.1) ms) in
-          let b = deepest_rest (nesting m.1) (map (λ (n : List ℕ × Value). nesting n.1) ms) in
-          subst (λ key. (has_key key keys ≡ false) × IsTaken depth head.tree × MembersTaken depth (keys ++ key ∷ []) rest.members) (sym chars.1.content')
+          let a = greatest_first (nesting m.1) (map (λ (n : List ℕ × Value). nesting n.1) ms) in
+          let b = greatest_rest (nesting m.1) (map (λ (n : List ℕ × Value). nesting n.1) ms) in
+          subst (λ key. (has_key key keys ≡ false) × IsTaken depth head.tree × MembersTaken depth (keys ++ key ∷ []) rest.members) (sym chars.1.content)
           (new_key m.0 keys (keys_of ms) below, head.taken depth (omega arith), rest.taken depth (keys ++ m.0 ∷ []) (omega arith) (later_keys m.0 keys (keys_of ms) below rise.0));
       means = λ place comma.
-          let q : ℕ = place + length (lead [] comma []) in
-          let v : ℕ = q + length (print_string chars.0 ++ colon [] []) in
-          cons_is (json_member (member_of (content chars.0) q (value_at v head.tree))) m (map json_member (members_at (v + length (print head.tree)) (44 ∷ []) rest.members)) ms
-          (member_is (content chars.0) q (value_at v head.tree)
-          ∙ ap (λ (key : List ℕ). (key, json_value (value_at v head.tree))) chars.1.content'
+          let q : ℕ = place + length (print_separator no_gap comma) in
+          let v : ℕ = q + length (print_string chars.0 ++ print_colon no_gap) in
+          cons_is (json_member (member_of (string_content chars.0) q (value_at v head.tree))) m (map json_member (members_at (v + length (print head.tree)) (44 ∷ []) rest.members)) ms
+          (member_is (string_content chars.0) q (value_at v head.tree)
+          ∙ ap (λ (key : List ℕ). (key, json_value (value_at v head.tree))) chars.1.content
           ∙ ap (λ (x : Value). (m.0, x)) (head.means v))
           (rest.means (v + length (print head.tree)) (44 ∷ []));
     }
@@ -434,7 +438,7 @@ map_tree ms all rise =
       prints = ap (λ l. 123 ∷ l) (members.prints []) ∙ ap (λ l. 123 ∷ (l ++ 125 ∷ [])) (first_text (map keyed_text ms)) ∙ sym (compact-Map ms);
       is = members.are;
       taken = λ depth shallow.
-          let deep : nesting (value.Map ms) ≡ suc (deepest (map (λ (m : List ℕ × Value). nesting m.1) ms)) = nesting-Map ms in
+          let deep : nesting (value.Map ms) ≡ suc (greatest_depth (map (λ (m : List ℕ × Value). nesting m.1) ms)) = nesting-Map ms in
           (omega arith, members.taken (suc depth) [] (omega arith) tt);
       means = λ place. json-Object place (members_at (place + 1) [] members.members) ∙ ap map_of (members.means (place + 1) []) ∙ ap value.Map (sorted_already [] ms tt rise);
     }

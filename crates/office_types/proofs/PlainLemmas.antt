@@ -12,12 +12,12 @@ use Rattle.std.specs.Ordering.{match_ordering}
 use Rattle.std.proofs.Math.Utf8.{encodes, scalars}
 use Rattle.std.specs.Cmp.Derive.{both_true}
 use lib.Utf8.{scalar}
-use Rattle.ordered_json.specs.Grammar.{AreChars, AreElements, AreMembers, Char, CodeUnit, Elements, IsChar, IsTree, Members, Tree, are_hex, array, boolean, coded, colon, element, escape_value, escaped, is_high_surrogate, is_low_surrogate, lead, member, no_elements, no_members, null, number, object, paired, plain, print, print_string, string, unit_value}
-use Rattle.ordered_json.specs.Meaning.{ElementsTaken, IsTaken, MembersTaken, char_value, content, fits, int_value, items_at, magnitude, members_at, value_at}
+use Rattle.ordered_json.specs.Grammar.{AreChars, AreElements, AreMembers, Char, CodeUnit, Elements, IsChar, IsTree, Members, Tree, are_hex, array, boolean, coded, element, escape_value, escaped, is_high_surrogate, is_low_surrogate, member, no_elements, no_members, null, number, object, paired, plain, print, print_colon, print_separator, print_string, string, unit_value}
+use Rattle.ordered_json.specs.Meaning.{ElementsTaken, IsTaken, MembersTaken, char_value, fits, int_value, items_at, magnitude, members_at, string_content, value_at}
 use Rattle.ordered_json.specs.declared.json.Member.{Member}
 use Rattle.ordered_json.specs.declared.json.OrderedJson.{OrderedJson}
 use Rattle.ordered_json.specs.Words.{member_of}
-use Rattle.ordered_json.proofs.Strings.{and_true, pair_scalar, unit_scalar, digit_below}
+use Rattle.ordered_json.proofs.StringLemmas.{and_true, pair_scalar, unit_scalar, digit_below}
 use Rattle.xs_model.specs.declared.value.Value.{Value}
 use Rattle.xs_model.specs.declared.value.Value.TheOpen.{Value-F}
 use Rattle.xs_model.specs.declared.value.Value.TheVariants as value
@@ -72,13 +72,13 @@ all_scalar : (cs : List Char) → AreChars cs → scalars (map char_value cs) �
 all_scalar [] are = refl
 all_scalar (c ∷ cs) are = both_true (char_scalar c are.0) (all_scalar cs are.1)
 
-content-encodes : (cs : List Char) → encodes (map char_value cs) ≡ content cs
-content-encodes [] = refl
-content-encodes (c ∷ cs) = ap (λ rest. encode_utf8 (char_value c) ++ rest) (content-encodes cs)
+string_content-encodes : (cs : List Char) → encodes (map char_value cs) ≡ string_content cs
+string_content-encodes [] = refl
+string_content-encodes (c ∷ cs) = ap (λ rest. encode_utf8 (char_value c) ++ rest) (string_content-encodes cs)
 
 -- the content of a string is text
-IsUtf8-content : (cs : List Char) → AreChars cs → IsUtf8 (content cs)
-IsUtf8-content cs are = (map char_value cs, (all_scalar cs are, content-encodes cs))
+IsUtf8-string_content : (cs : List Char) → AreChars cs → IsUtf8 (string_content cs)
+IsUtf8-string_content cs are = (map char_value cs, (all_scalar cs are, string_content-encodes cs))
 
 -- ---- plain values by their parts
 
@@ -153,7 +153,7 @@ mutual
   tree_plain depth (boolean truth) is taken p = subst IsPlain (sym (json-Bool p truth)) (plain_bool truth)
   tree_plain depth (number minus ds fraction exponent) is taken p =
       subst IsPlain (sym (json-Int p (int_value minus (magnitude ds)))) (plain_int (int_value minus (magnitude ds)) (int_fits minus (magnitude ds) taken.2))
-  tree_plain depth (string cs) is taken p = subst IsPlain (sym (json-Text p (content cs))) (plain_text (content cs) (IsUtf8-content cs is))
+  tree_plain depth (string cs) is taken p = subst IsPlain (sym (json-Text p (string_content cs))) (plain_text (string_content cs) (IsUtf8-string_content cs is))
   tree_plain depth (array es) is taken p =
       subst IsPlain (sym (json-List p (items_at (p + 1) [] es))) (plain_list (map json_value (items_at (p + 1) [] es)) (elements_plain (suc depth) es is taken.1 (p + 1) []))
   tree_plain depth (object ms) is taken p =
@@ -163,17 +163,17 @@ mutual
 
   elements_plain : (depth : ℕ) (es : Elements) → AreElements es → ElementsTaken depth es → (p : ℕ) (comma : List ℕ) → AllByRecursion IsPlain (map json_value (items_at p comma es))
   elements_plain depth (no_elements s) are taken p comma = tt
-  elements_plain depth (element s s' t es) are taken p comma =
-      let q : ℕ = p + length (lead s comma s') in
-      (tree_plain depth t are.2 taken.0 q, elements_plain depth es are.3 taken.1 (q + length (print t)) (44 ∷ []))
+  elements_plain depth (element gap t es) are taken p comma =
+      let q : ℕ = p + length (print_separator gap comma) in
+      (tree_plain depth t are.1 taken.0 q, elements_plain depth es are.2 taken.1 (q + length (print t)) (44 ∷ []))
 
   members_plain : (depth : ℕ) (keys : List (List ℕ)) (ms : Members) → AreMembers ms → MembersTaken depth keys ms → (p : ℕ) (comma : List ℕ) → AllByRecursion PlainMember (map json_member (members_at p comma ms))
   members_plain depth keys (no_members s) are taken p comma = tt
-  members_plain depth keys (member s s' k r r' t ms) are taken p comma =
-      let q : ℕ = p + length (lead s comma s') in
-      let v : ℕ = q + length (print_string k ++ colon r r') in (
-        subst PlainMember (sym (member_is (content k) q (value_at v t))) (IsUtf8-content k are.2, tree_plain depth t are.5 taken.1 v),
-        members_plain depth (keys ++ content k ∷ []) ms are.6 taken.2 (v + length (print t)) (44 ∷ []),
+  members_plain depth keys (member gap key t ms) are taken p comma =
+      let q : ℕ = p + length (print_separator gap comma) in
+      let v : ℕ = q + length (print_string key.chars ++ print_colon key.gap) in (
+        subst PlainMember (sym (member_is (string_content key.chars) q (value_at v t))) (IsUtf8-string_content key.chars are.1.0, tree_plain depth t are.2 taken.1 v),
+        members_plain depth (keys ++ string_content key.chars ∷ []) ms are.3 taken.2 (v + length (print t)) (44 ∷ []),
       )
 
 -- what a text means is plain

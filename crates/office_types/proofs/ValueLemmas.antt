@@ -15,7 +15,7 @@ use Rattle.xs_model.specs.declared.value.Value.{Value, the_lemmas}
 use Rattle.xs_model.specs.declared.value.Value.TheOpen.{Value-F}
 use Rattle.xs_model.specs.declared.value.Value.TheVariants as value
 use Rattle.xs_model.specs.declared.value.Value.TheVariants.{rolls-Null, rolls-Bool, rolls-Int, rolls-Text, rolls-List, rolls-Map}
-use Rattle.xs_model.specs.Compact.{bracketed, compact_text, deepest, keyed_text, nesting}
+use Rattle.xs_model.specs.Compact.{bracketed_text, compact_text, greatest_depth, keyed_text, nesting}
 use Rattle.xs_model.specs.Rising.{put}
 use Rattle.xs_model.proofs.CompactLemmas.{compact-List, compact-Map}
 use Rattle.xs_model.proofs.PartLemmas.{by_parts, Parts}
@@ -76,14 +76,14 @@ compact-Text text = search (rules, the_lemmas)
 pub nesting-Text : (text : List ℕ) → nesting (value.Text text) ≡ 0
 nesting-Text text = search (rules, the_lemmas)
 
-pub nesting-List : (members : List Value) → nesting (value.List members) ≡ suc (deepest (map nesting members))
+pub nesting-List : (members : List Value) → nesting (value.List members) ≡ suc (greatest_depth (map nesting members))
 nesting-List members = search (rules, the_lemmas)
 
 nested : (members : List (List ℕ × Value)) → values_of (map (λ (m : List ℕ × Value). (m.0, nesting m.1)) members) ≡ map (λ (m : List ℕ × Value). nesting m.1) members
 nested [] = refl
 nested (m ∷ members) = ap (λ depths. nesting m.1 ∷ depths) (nested members)
 
-pub nesting-Map : (members : List (List ℕ × Value)) → nesting (value.Map members) ≡ suc (deepest (map (λ (m : List ℕ × Value). nesting m.1) members))
+pub nesting-Map : (members : List (List ℕ × Value)) → nesting (value.Map members) ≡ suc (greatest_depth (map (λ (m : List ℕ × Value). nesting m.1) members))
 nesting-Map members = search (rules, the_lemmas, nested)
 
 -- ---- tokens

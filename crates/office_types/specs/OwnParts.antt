@@ -6,7 +6,7 @@ use Rattle.xs_model.specs.declared.value.Value.TheOpen.{Value-F}
 use Rattle.step_sets.specs.Configuration.{IsLegal}
 use Rattle.step_sets.specs.Goals.{History}
 use Rattle.step_sets.specs.History.{history_nodes}
-use Rattle.step_sets.specs.Kinds.{Nodes}
+use Rattle.node_tree.specs.Kinds.{Nodes}
 use Rattle.step_sets.specs.Statechart.{IsFitHistory}
 use Rattle.office_types.specs.declared.limits.TheConstants.{MAX_NEXT_NUMBER}
 use Rattle.office_types.specs.declared.outcome.Own.{Own}
