@@ -1,3 +1,5 @@
+//! A growing list that contracts see as the list of its items.
+
 ghost use Rattle.std.specs.Prelude.{◌≡◌, [], ◌∷◌, ◌++◌, length, ◌==◌, slice_get, IfErr, OnOk, OnErr};
 ghost use Rattle.std.specs.Option.{option_copied};
 

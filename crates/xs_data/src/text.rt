@@ -1,3 +1,5 @@
+//! A text in UTF-8 that contracts see as its bytes.
+
 ghost use Rattle.std.specs.Prelude.{◌≡◌, ◌↔◌, [], ◌++◌, length, encode_utf8, IfOk, OnOk, OnErr, IsTrue};
 ghost use Rattle.std.specs.String.{string_bytes};
 
