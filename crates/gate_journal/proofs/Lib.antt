@@ -1,0 +1,10 @@
+pub mod DropLemmas
+pub mod GateLemmas
+pub mod HoldLemmas
+pub mod NumberLemmas
+pub mod OkLemmas
+pub mod PieceLemmas
+pub mod ReadLemmas
+pub mod SwitchLemmas
+pub mod TextLemmas
+pub mod WindowLemmas

@@ -1,0 +1,11 @@
+pub mod Gate
+pub mod Journal
+pub mod Layout
+pub mod Parts
+pub mod Pieces
+pub mod Reading
+pub mod Reads
+pub mod Ready
+pub mod Refusals
+pub mod Runs
+pub mod Sides
