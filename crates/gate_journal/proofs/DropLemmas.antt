@@ -1,23 +1,23 @@
 -- What a side holds when the gate of its last record is closed.
-use Rattle.std.proofs.Common.{◌≡◌, ◌≢◌, ◌⊎◌, inl, inr, ℕ, ◌+◌, ◌-◌, ◌<◌, ◌≤◌, List, [], ◌∷◌, ◌++◌, length, get_or, take, drop, refl, sym, ◌∙◌, ap, subst, arith, append_assoc, length-append, take-append-drop}
+use Rattle.std.proofs.Common.{◌≡◌, ◌≢◌, ◌⊎◌, inl, inr, ℕ, ◌+◌, ◌-◌, ◌<◌, ◌≤◌, List, [], ◌∷◌, ◌++◌, length, get_or, take, drop, sym, ◌∙◌, ap, subst, arith, append_assoc, length-append, take-append-drop}
 use Rattle.std.specs.Prelude.{Some}
 use Rattle.std.proofs.lemmas.Bool.{cases_eq}
 use Rattle.std.proofs.lemmas.List.{take_at, drop_at, drop_more, take_all, take_more, length_push}
 use Rattle.std.proofs.lemmas.List.Elements.{All-take}
 use Rattle.std.specs.List.{flat_map}
 use Rattle.xs_outside.specs.Disk.{Sides, on, other, Changes, Torn, Written}
-use Rattle.gate_journal.specs.declared.layout.TheConstants.{OPEN, CLOSED}
+use Rattle.gate_journal.specs.declared.parts.TheConstants.{OPEN, CLOSED}
 use Rattle.gate_journal.specs.declared.held.Held.{Held}
-use Rattle.gate_journal.specs.Layout.{Content, IsSound, Holds, IsRecordSize, four_bytes, record_text, side_text, places_from}
+use Rattle.gate_journal.specs.Layout.{Holds, IsRecordSize, four_bytes, record_text, side_text, places_from}
 use Rattle.gate_journal.specs.Sides.{content_of, first_place, IsHeldBy, IsBehind}
 use Rattle.gate_journal.specs.Journal.{text_length, without_last, HoldsEither}
-use Rattle.gate_journal.proofs.HoldLemmas.{with_record, side_text-push, places_from-push}
+use Rattle.gate_journal.proofs.HoldLemmas.{side_text-push, places_from-push}
 
 module _ (held : Held) (some : 0 < length held.records) where
-  last_record : List ℕ
+  pub last_record : List ℕ
   last_record = get_or held.records (length held.records - 1) []
 
-  records_split : held.records ≡ (without_last held).records ++ last_record ∷ []
+  pub records_split : held.records ≡ (without_last held).records ++ last_record ∷ []
   unfolding last_record
   records_split =
       sym (take_all (length held.records - 1 + 1) held.records (omega (arith, some)))

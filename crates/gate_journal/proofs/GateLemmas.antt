@@ -1,8 +1,8 @@
 -- What a crash leaves of a text that is written behind a closed gate, and of the gate.
-use Rattle.std.proofs.Common.{◌≡◌, ◌⊎◌, inl, inr, ℕ, ◌+◌, ◌<◌, ◌≤◌, List, [], ◌∷◌, ◌++◌, length, get_or, take, drop, refl, sym, ◌∙◌, ap, arith, append_assoc, length-append, length-take, length-drop, take-append-drop}
-use Rattle.std.proofs.lemmas.List.{take_at, drop_at, drop_more, take-take, take-append-le, length-take-le}
+use Rattle.std.proofs.Common.{◌≡◌, inl, inr, ℕ, ◌+◌, ◌<◌, ◌≤◌, List, [], ◌∷◌, ◌++◌, length, get_or, take, drop, sym, ◌∙◌, ap, arith, append_assoc, length-append, take-append-drop}
+use Rattle.std.proofs.lemmas.List.{drop_at, drop_more, take-take, take-append-le, length-take-le}
 use Rattle.xs_outside.specs.declared.Side.{Side}
-use Rattle.xs_outside.specs.Disk.{Sides, DiskState, on, other, Changes, Torn, Written, AllSince, Later}
+use Rattle.xs_outside.specs.Disk.{Sides, DiskState, on, Changes, Torn, Written, AllSince, Later}
 use Rattle.xs_outside.proofs.ImageLemmas.{since_joined}
 use Rattle.gate_journal.specs.Gate.{IsOpening, StandsBehind}
 

@@ -1,21 +1,21 @@
 -- What a side holds, after each thing that a journal or a crash may do to it.
-use Rattle.std.proofs.Common.{◌≡◌, ◌≢◌, ◌⊎◌, ◌↔◌, inl, inr, IsTrue, ℕ, ◌+◌, ◌-◌, ◌<◌, ◌≤◌, Bool, List, [], ◌∷◌, ◌++◌, length, get_or, take, drop, refl, sym, ◌∙◌, ap, subst, arith, append_assoc, length-append, take-append-drop}
+use Rattle.std.proofs.Common.{◌≡◌, ◌≢◌, ◌⊎◌, ◌↔◌, inl, inr, IsTrue, ℕ, ◌+◌, ◌-◌, ◌≤◌, Bool, List, [], ◌∷◌, ◌++◌, length, get_or, take, drop, sym, ◌∙◌, ap, subst, arith, append_assoc, length-append, take-append-drop}
 use Rattle.std.specs.Prelude.{Some}
 use Rattle.std.proofs.lemmas.Bool.{cases_eq}
-use Rattle.std.proofs.lemmas.List.{take_at, drop_at, append-nil, flat_map_more, length_push}
+use Rattle.std.proofs.lemmas.List.{take_at, flat_map_more, length_push}
 use Rattle.std.proofs.lemmas.List.Elements.{All-push}
 use Rattle.std.specs.List.{flat_map}
 use Rattle.xs_outside.specs.declared.Side.{Side}
 use Rattle.xs_outside.specs.declared.Side.TheVariants.{A, B}
-use Rattle.xs_outside.specs.Disk.{Sides, DiskState, on, other, Changes}
-use Rattle.gate_journal.specs.declared.layout.TheConstants.{OPEN, CLOSED}
+use Rattle.xs_outside.specs.Disk.{Sides, on, other, Changes}
+use Rattle.gate_journal.specs.declared.parts.TheConstants.{OPEN, CLOSED}
 use Rattle.gate_journal.specs.declared.held.Held.{Held}
 use Rattle.gate_journal.specs.Gate.{IsOpening, StandsBehind}
-use Rattle.gate_journal.specs.Layout.{Content, IsSound, Holds, IsClosed, IsRecordSize, four_bytes, record_text, head_text, side_text, places_from}
-use Rattle.gate_journal.specs.Sides.{content_of, first_place, IsHeldBy, SidesHold, IsBehind}
+use Rattle.gate_journal.specs.Layout.{Content, Holds, IsRecordSize, four_bytes, record_text, head_text, side_text, places_from}
+use Rattle.gate_journal.specs.Sides.{content_of, first_place, IsHeldBy, IsBehind}
 use Rattle.gate_journal.specs.Journal.{text_length, added, without_last, HoldsEither}
 use Rattle.gate_journal.specs.Ready.{IsReady}
-use Rattle.gate_journal.proofs.TextLemmas.{length-record_text, length-head_text}
+use Rattle.gate_journal.proofs.TextLemmas.{length-record_text}
 
 -- ---- texts
 
@@ -38,8 +38,8 @@ pub places_from-push : (place : ℕ) (records : List (List ℕ)) (payload : List
 places_from-push place [] payload = ap (λ n. n ∷ []) (omega arith)
 places_from-push place (first ∷ records) payload =
     ap (λ l. place ∷ l) (
-      places_from-push (place + length (record_text first)) records payload
-      ∙ ap (λ n. places_from (place + length (record_text first)) records ++ n ∷ []) (omega (arith, length-append (record_text first) (flat_map record_text records)))
+    places_from-push (place + length (record_text first)) records payload
+    ∙ ap (λ n. places_from (place + length (record_text first)) records ++ n ∷ []) (omega (arith, length-append (record_text first) (flat_map record_text records)))
     )
 
 -- a side that holds something is open, and has a gate behind it

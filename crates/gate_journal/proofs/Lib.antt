@@ -1,8 +1,11 @@
 pub mod DropLemmas
+pub mod FrontLemmas
 pub mod GateLemmas
 pub mod HoldLemmas
 pub mod NumberLemmas
 pub mod OkLemmas
+pub mod OpenedLemmas
+pub mod OpeningLemmas
 pub mod PieceLemmas
 pub mod ReadLemmas
 pub mod SwitchLemmas

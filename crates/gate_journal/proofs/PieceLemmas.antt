@@ -1,5 +1,5 @@
 -- Byte strings that lie in one buffer.
-use Rattle.std.proofs.Common.{◌≡◌, ℕ, zero, suc, ◌+◌, ◌-◌, ◌<◌, ◌≤◌, List, [], ◌∷◌, ◌++◌, length, get_or, take, drop, refl, sym, ◌∙◌, ap, subst, arith, length-append, length-drop}
+use Rattle.std.proofs.Common.{◌≡◌, ℕ, zero, suc, ◌-◌, ◌<◌, ◌≤◌, List, [], ◌∷◌, ◌++◌, length, get_or, take, drop, refl, sym, ◌∙◌, ap, arith, length-append, length-drop}
 use Rattle.std.specs.Prelude.{slice_get, Some, None}
 use Rattle.std.proofs.lemmas.List.{take_all, take-append-le, drop-append-le, drop_at}
 use Rattle.gate_journal.specs.Pieces.{pieces, Ends, start_of}
@@ -21,8 +21,8 @@ pub pieces-push : (bytes more : List ℕ) (from : ℕ) (ends : List ℕ) → End
     → pieces (bytes ++ more) from (ends ++ length (bytes ++ more) ∷ []) ≡ pieces bytes from ends ++ more ∷ []
 pieces-push bytes more from [] is =
     ap (λ (l : List ℕ). l ∷ []) (
-      ap (λ (l : List ℕ). take (length (bytes ++ more) - from) l) (drop_at bytes more from (sym is))
-      ∙ take_all (length (bytes ++ more) - from) more (omega (arith, is, length-append bytes more))
+    ap (λ (l : List ℕ). take (length (bytes ++ more) - from) l) (drop_at bytes more from (sym is))
+    ∙ take_all (length (bytes ++ more) - from) more (omega (arith, is, length-append bytes more))
     )
 pieces-push bytes more from (end ∷ ends) is =
     let inside : end ≤ length bytes = Ends-le end ends (length bytes) is.1 in

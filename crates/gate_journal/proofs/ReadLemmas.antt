@@ -1,6 +1,6 @@
 -- How a run of reads goes on.
-use Rattle.std.proofs.Common.{◌≡◌, IsTrue, subst, sym, refl, ◌∙◌, arith}
-use Rattle.xs_outside.specs.Disk.{Sides, DiskState, SameImages, Passes, Later, AllSince, MayLeaveNow}
+use Rattle.std.proofs.Common.{◌≡◌, refl, ◌∙◌, arith}
+use Rattle.xs_outside.specs.Disk.{DiskState, SameImages, Passes, MayLeaveNow}
 use Rattle.xs_outside.proofs.ImageLemmas.{since_now, since_more, since_joined, later_still}
 use Rattle.gate_journal.specs.Reads.{OnlyReads}
 

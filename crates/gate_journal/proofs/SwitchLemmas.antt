@@ -9,11 +9,11 @@ use Rattle.std.specs.Option.{option_map_or}
 use Rattle.xs_outside.specs.declared.Side.{Side}
 use Rattle.xs_outside.specs.declared.Side.TheVariants.{A, B}
 use Rattle.xs_outside.specs.Disk.{Sides, on, other, Changes}
-use Rattle.gate_journal.specs.declared.layout.TheConstants.{OPEN, CLOSED, MAX_BASE, HEAD}
+use Rattle.gate_journal.specs.declared.parts.TheConstants.{OPEN, CLOSED, MAX_BASE, HEAD}
 use Rattle.gate_journal.specs.declared.held.Held.{Held}
 use Rattle.gate_journal.specs.declared.journal.Current.{Current}
 use Rattle.gate_journal.specs.Gate.{BeginsWith, IsBeingMade}
-use Rattle.gate_journal.specs.Layout.{Content, IsSound, Holds, HasHead, IsClosed, IsRecordSize, four_bytes, eight_bytes, record_text, head_text, side_text}
+use Rattle.gate_journal.specs.Layout.{Content, Holds, IsClosed, IsRecordSize, four_bytes, eight_bytes, record_text, head_text, side_text}
 use Rattle.gate_journal.specs.Sides.{content_of, IsHeldBy, IsBehind, HasGeneration, SidesHold}
 use Rattle.gate_journal.specs.Ready.{IsReady}
 use Rattle.gate_journal.specs.Journal.{Knows, HoldsEither, switched, side_after, flag_after, text_length}

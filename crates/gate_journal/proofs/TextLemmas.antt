@@ -1,9 +1,8 @@
 -- The text of a side: how long its parts are, and how it is put together.
-use Rattle.std.proofs.Common.{◌≡◌, ℕ, ◌+◌, ◌<◌, ◌≤◌, List, [], ◌∷◌, ◌++◌, length, get_or, take, drop, refl, sym, ◌∙◌, ap, arith, append_assoc, length-append, take-append-drop}
-use Rattle.std.proofs.lemmas.List.{append-nil, drop_more, drop-drop}
-use Rattle.std.specs.List.{flat_map}
-use Rattle.gate_journal.specs.declared.layout.TheConstants.{OPEN}
-use Rattle.gate_journal.specs.Layout.{four_bytes, eight_bytes, record_text, head_text, side_text, Content}
+use Rattle.std.proofs.Common.{◌≡◌, ℕ, ◌+◌, ◌<◌, ◌≤◌, List, ◌∷◌, ◌++◌, length, get_or, take, drop, sym, ◌∙◌, ap, arith, append_assoc, length-append, take-append-drop}
+use Rattle.std.proofs.lemmas.List.{drop_more, drop-drop}
+use Rattle.gate_journal.specs.declared.parts.TheConstants.{OPEN}
+use Rattle.gate_journal.specs.Layout.{four_bytes, eight_bytes, record_text, head_text}
 use Rattle.gate_journal.proofs.NumberLemmas.{length-four_bytes, length-eight_bytes}
 
 pub length-head_text : (generation size : ℕ) → length (head_text generation size) ≡ 13

@@ -1,16 +1,14 @@
 -- How a window goes over a text, and what stands where it does.
-use Rattle.std.proofs.Common.{◌≡◌, ◌⊎◌, inl, inr, ℕ, ◌+◌, ◌-◌, ◌<◌, ◌≤◌, List, [], ◌∷◌, ◌++◌, length, take, drop, sym, ◌∙◌, ap, subst, arith, append_assoc, length-append, length-take, length-drop, take-append-drop, refl}
+use Rattle.std.proofs.Common.{◌≡◌, inl, inr, ℕ, ◌+◌, ◌-◌, ◌≤◌, List, [], ◌∷◌, ◌++◌, length, take, drop, sym, ◌∙◌, ap, arith, append_assoc, length-append, length-drop, take-append-drop, refl}
 use Rattle.std.proofs.lemmas.List.{take-take, take_all, take_at, drop_at, drop-drop, drop-take, flat_map_more, length-take-le, append-nil}
 use Rattle.std.proofs.lemmas.List.Elements.{All-append, All-push, All-nil}
 use Rattle.std.specs.List.{flat_map}
-use Rattle.std.specs.Prelude.{All}
 use Rattle.xs_outside.specs.declared.Side.{Side}
 use Rattle.xs_outside.specs.Disk.{Sides, DiskState, on}
-use Rattle.gate_journal.specs.declared.layout.TheConstants.{OPEN}
+use Rattle.gate_journal.specs.declared.parts.TheConstants.{OPEN}
 use Rattle.gate_journal.specs.declared.scan.Stop.TheVariants as stop
 use Rattle.gate_journal.specs.declared.window.Window.{Window}
-use Rattle.gate_journal.specs.Layout.{IsRecordSize, HasWrongSize, IsCutShort, four_bytes, record_text, places_from}
-use Rattle.gate_journal.specs.Reads.{OnlyReads}
+use Rattle.gate_journal.specs.Layout.{IsRecordSize, four_bytes, record_text, places_from}
 use Rattle.gate_journal.specs.Reading.{Adds, AddsBetween, BreaksAt, EndsAt, ReadsOn, StopsAt, left_behind}
 use Rattle.gate_journal.proofs.HoldLemmas.{places_from-push}
 use Rattle.gate_journal.proofs.ReadLemmas.{reads_joined}
@@ -95,8 +93,8 @@ places_from-append : (place : ℕ) (xs ys : List (List ℕ)) → places_from pla
 places_from-append place [] ys = ap (λ n. places_from n ys) (omega arith)
 places_from-append place (x ∷ xs) ys =
     ap (λ (l : List ℕ). place ∷ l) (
-      places_from-append (place + length (record_text x)) xs ys
-      ∙ ap (λ n. places_from (place + length (record_text x)) xs ++ places_from n ys) (omega (arith, length-append (record_text x) (flat_map record_text xs)))
+    places_from-append (place + length (record_text x)) xs ys
+    ∙ ap (λ n. places_from (place + length (record_text x)) xs ++ places_from n ys) (omega (arith, length-append (record_text x) (flat_map record_text xs)))
     )
 
 -- nothing is added between a place and itself

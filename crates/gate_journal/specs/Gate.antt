@@ -1,6 +1,6 @@
 -- A text that is written behind a closed gate, which is opened when the text stands.
 use Rattle.std.specs.Prelude.{◌≡◌, ◌⊎◌, ℕ, ◌+◌, List, ◌∷◌, ◌++◌, length, take, drop}
-use Rattle.gate_journal.specs.declared.layout.TheConstants.{OPEN}
+use Rattle.gate_journal.specs.declared.parts.TheConstants.{OPEN}
 use Rattle.gate_journal.specs.Layout.{IsClosed}
 
 -- the text stands behind this gate, in the place of what was there

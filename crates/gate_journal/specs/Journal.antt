@@ -1,12 +1,12 @@
 -- A journal in use, and what its disk holds for it.
-use Rattle.std.specs.Prelude.{◌≡◌, ◌⊎◌, ◌↔◌, ℕ, ◌+◌, ◌-◌, ◌^◌, ◌<◌, ◌≤◌, Bool, true, false, IsTrue, List, [], ◌∷◌, ◌++◌, length, take, Some, None, IsSome, IfSome, IsSomeAnd, Ok, Err, Result}
+use Rattle.std.specs.Prelude.{◌≡◌, ◌⊎◌, ◌↔◌, ℕ, ◌+◌, ◌-◌, ◌^◌, ◌<◌, Bool, true, false, IsTrue, List, [], ◌∷◌, ◌++◌, length, take, Some, None, IsSome, IfSome, IsSomeAnd, Ok, Err, Result}
 use Rattle.std.specs.declared.option.Option.{Option}
 use Rattle.std.specs.Option.{option_map, option_map_or, option_and_then}
 use Rattle.xs_outside.specs.declared.Side.{Side}
 use Rattle.xs_outside.specs.declared.Side.TheVariants.{A, B}
 use Rattle.xs_outside.specs.Disk.{Sides, DiskState, on, other, IsSettled}
 use Rattle.gate_journal.specs.declared.held.Held.{Held}
-use Rattle.gate_journal.specs.declared.layout.TheConstants.{HEAD}
+use Rattle.gate_journal.specs.declared.parts.TheConstants.{HEAD}
 use Rattle.xs_outside.specs.declared.streams.Failed.{Failed}
 use Rattle.gate_journal.specs.declared.journal.Current.{Current}
 use Rattle.gate_journal.specs.declared.journal.Journal.{Journal}

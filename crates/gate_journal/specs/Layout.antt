@@ -2,7 +2,7 @@
 use Rattle.std.specs.Prelude.{◌≡◌, ◌≢◌, ◌⊎◌, ℕ, ◌+◌, ◌^◌, ◌<◌, ◌≤◌, List, [], ◌∷◌, ◌++◌, length, All, slice_index}
 use Rattle.std.specs.List.{flat_map}
 use Rattle.std.specs.Int.{w32, w64, to_be_bytes}
-use Rattle.gate_journal.specs.declared.layout.TheConstants.{OPEN, HEAD, MAX_BASE, MAX_RECORD}
+use Rattle.gate_journal.specs.declared.parts.TheConstants.{OPEN, HEAD, MAX_BASE, MAX_RECORD}
 
 -- what an open side holds: its generation, its base, and the records since
 pub record Content : Type 0 where

@@ -1,6 +1,9 @@
+pub mod Found
 pub mod Gate
 pub mod Journal
 pub mod Layout
+pub mod Opened
+pub mod Opening
 pub mod Parts
 pub mod Pieces
 pub mod Reading

@@ -1,11 +1,11 @@
 -- What the parts of a side are, as far as the bytes at hand go.
-use Rattle.std.specs.Prelude.{◌≡◌, ◌≢◌, ◌⊎◌, ℕ, ◌+◌, ◌<◌, ◌≤◌, List, [], ◌∷◌, ◌++◌, length, take, drop, slice_index}
-use Rattle.gate_journal.specs.declared.layout.TheConstants.{OPEN, HEAD}
-use Rattle.gate_journal.specs.declared.layout.Head.{Head}
-use Rattle.gate_journal.specs.declared.layout.Head.TheVariants.{Closed, Short, Open}
-use Rattle.gate_journal.specs.declared.layout.Next.{Next}
-use Rattle.gate_journal.specs.declared.layout.Next.TheVariants.{Record, End, Bad, More}
-use Rattle.gate_journal.specs.Layout.{IsOpen, IsClosed, HasShortHead, HasHead, HasWrongSize, IsCutShort, IsRecordSize, record_text}
+use Rattle.std.specs.Prelude.{◌≡◌, ◌≢◌, ◌⊎◌, ℕ, ◌<◌, List, [], ◌∷◌, ◌++◌, length, drop, slice_index}
+use Rattle.gate_journal.specs.declared.parts.TheConstants.{OPEN, HEAD}
+use Rattle.gate_journal.specs.declared.parts.Head.{Head}
+use Rattle.gate_journal.specs.declared.parts.Head.TheVariants.{Closed, Short, Open}
+use Rattle.gate_journal.specs.declared.parts.Next.{Next}
+use Rattle.gate_journal.specs.declared.parts.Next.TheVariants.{Record, End, Bad, More}
+use Rattle.gate_journal.specs.Layout.{IsClosed, HasShortHead, HasHead, HasWrongSize, IsCutShort, IsRecordSize, record_text}
 
 -- the head of a side that begins so
 abbrev pub HeadIs : Head → List ℕ → Type 0

@@ -1,10 +1,10 @@
 -- How a side is read, piece after piece.
-use Rattle.std.specs.Prelude.{◌≡◌, ◌≢◌, ◌⊎◌, ℕ, ◌+◌, ◌-◌, ◌<◌, ◌≤◌, List, [], ◌∷◌, ◌++◌, length, take, drop, All, Result, Ok, Err, MatchResult}
+use Rattle.std.specs.Prelude.{◌≡◌, ◌≢◌, ◌⊎◌, ℕ, ◌+◌, ◌-◌, ◌≤◌, List, [], ◌∷◌, ◌++◌, length, take, drop, All, Result, Ok, Err}
 use Rattle.std.specs.List.{flat_map}
 use Rattle.xs_outside.specs.Counts.{Rose}
 use Rattle.xs_outside.specs.Disk.{DiskState}
 use Rattle.gate_journal.specs.Reads.{OnlyReads}
-use Rattle.gate_journal.specs.declared.layout.TheConstants.{OPEN}
+use Rattle.gate_journal.specs.declared.parts.TheConstants.{OPEN}
 use Rattle.gate_journal.specs.declared.window.Window.{Window}
 use Rattle.gate_journal.specs.declared.window.ReadRefused.{ReadRefused}
 use Rattle.gate_journal.specs.declared.window.ReadRefused.TheVariants.{Fault, Memory}

@@ -1,7 +1,7 @@
 -- What runs of device calls do to a disk.
-use Rattle.std.specs.Prelude.{◌≡◌, ℕ, ◌+◌, ◌≤◌, Bool, IsTrue, MatchBool}
+use Rattle.std.specs.Prelude.{◌≡◌, Bool, IsTrue, MatchBool}
 use Rattle.xs_outside.specs.Counts.{Rose}
-use Rattle.xs_outside.specs.Disk.{DiskState, Later, AllSince, SameImages, MayLeaveNow}
+use Rattle.xs_outside.specs.Disk.{DiskState, Later, AllSince, MayLeaveNow}
 
 -- What each call of a journal keeps to, whatever it answers: honesty and what is beside the sides stay, the count of faults
 -- rises where the answer is a fault and only there, and time goes on.

@@ -1,10 +1,10 @@
 -- What both sides of a disk hold together.
-use Rattle.std.specs.Prelude.{◌≡◌, ◌⊎◌, ℕ, ◌<◌, ◌≤◌, List, [], ◌∷◌, ◌++◌, length, Some, None}
+use Rattle.std.specs.Prelude.{◌≡◌, ◌⊎◌, ℕ, ◌<◌, ◌≤◌, List, ◌++◌, length, Some, None}
 use Rattle.std.specs.declared.option.Option.{Option}
 use Rattle.xs_outside.specs.declared.Side.{Side}
 use Rattle.xs_outside.specs.declared.Side.TheVariants.{A, B}
 use Rattle.xs_outside.specs.Disk.{Sides, on, other}
-use Rattle.gate_journal.specs.declared.layout.TheConstants.{HEAD}
+use Rattle.gate_journal.specs.declared.parts.TheConstants.{HEAD}
 use Rattle.gate_journal.specs.declared.held.Held.{Held}
 use Rattle.gate_journal.specs.Layout.{Content, Holds, HasHead, HasShortHead, IsClosed, IsBadAt, head_text, places_from}
 

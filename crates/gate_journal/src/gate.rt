@@ -2,12 +2,12 @@
 
 ghost use Rattle.std.specs.Prelude.{◌≡◌, ◌↔◌, ◌+◌, ◌^◌, ◌<◌, ◌≤◌, IsTrue, length, OnOk, is_err};
 ghost use Rattle.xs_outside.specs.Disk.{on, Changes, Torn, Written, AllSince, IsSettled};
-ghost use Rattle.gate_journal.specs.declared.layout.TheConstants.{OPEN};
+ghost use Rattle.gate_journal.specs.declared.parts.TheConstants.{OPEN};
 ghost use Rattle.gate_journal.specs.Gate.{BeginsWith, IsBeingMade, IsOpening, StandsBehind};
 ghost use Rattle.gate_journal.specs.Ready.{IsReady};
 ghost use Rattle.gate_journal.specs.Runs.{IsJournalCall};
 
-use crate::layout::{CLOSED, OPEN};
+use crate::parts::{CLOSED, OPEN};
 use xs_outside::{Disk, Failed, Side};
 
 /// Makes a side begin with a text behind an open gate. A side that is closed and has two bytes or more

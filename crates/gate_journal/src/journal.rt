@@ -1,14 +1,28 @@
 //! The journal in use: records are appended, the last one is dropped, and the office moves to the other side.
 
-ghost use Rattle.std.specs.Prelude.{◌≡◌, ◌↔◌, ◌⊎◌, ◌+◌, ◌-◌, ◌++◌, [], ◌∷◌, ◌<◌, ◌^◌, length, IsTrue, Some, Option, OnOk, IfOk, is_err};
+ghost use Rattle.std.specs.Prelude.{◌≡◌, ◌↔◌, ◌⊎◌, ◌+◌, ◌-◌, ◌++◌, [], ◌∷◌, ◌<◌, ◌≤◌, ◌^◌, length, slice_index, IsTrue, Some, Option, OnOk, IfOk, IfSome, is_err, is_some};
+ghost use Rattle.gate_journal.specs.Opened.{PointsTo};
 ghost use Rattle.gate_journal.specs.Journal.{flag_after};
 ghost use Rattle.gate_journal.specs.Layout.{four_bytes, eight_bytes, IsRecordSize};
-ghost use Rattle.gate_journal.specs.declared.layout.TheConstants.{CLOSED, MAX_BASE};
+ghost use Rattle.gate_journal.specs.declared.parts.TheConstants.{CLOSED, MAX_BASE};
 
+use crate::Held;
 use crate::gate::{make_side, open_gate, write_through};
-use crate::layout::{CLOSED, HEAD, MAX_BASE, RECORD_HEAD};
+use crate::opening::{Found, SidesRefused, read_sides, sync_both};
+use crate::parts::{CLOSED, HEAD, MAX_BASE, RECORD_HEAD};
 use std::alloc::{AllocError, Global};
 use xs_outside::{Disk, Failed, Got, Side, Sink, Source, Station};
+
+/// Why a journal wasn't opened. Each hands the disk back.
+#[derive(Debug, Drop)]
+pub enum JournalRefused<D> {
+    /// The side and the place of the first byte that breaks the layout.
+    Bad(Side, u64, D),
+    /// A call of the disk failed.
+    Fault(D),
+    /// Memory was wanted.
+    Memory(D),
+}
 
 /// Why a record wasn't appended.
 #[derive(Clone, Copy, Debug, PartialEq, Eq)]
@@ -59,15 +73,92 @@ pub struct Journal<D: Disk> {
 
 impl<D: Disk> Journal<D> {
     ghost use Rattle.xs_outside.specs.Disk.{AllSince, other};
-    ghost use Rattle.gate_journal.specs.Runs.{IsJournalCall};
+    ghost use Rattle.gate_journal.specs.Found.{both_lengths};
+    ghost use Rattle.gate_journal.specs.Opened.{IfBadSides, disk_after, open_failed};
+    ghost use Rattle.gate_journal.specs.Runs.{IsJournalCall, KeepsSides};
+    ghost use Rattle.gate_journal.specs.Sides.{AreBadAt};
     ghost use Rattle.gate_journal.specs.declared.held.Held.{Held};
-    ghost use Rattle.gate_journal.specs.Journal.{disk_of, IsShut, CanAppend, CanDrop, CanSwitch, Stands, HoldsEither, added, without_last, switched, append_failed, switch_failed, generation_of, next_side, ready_on, AppendLeaves, DropLeaves, SwitchLeaves};
+    ghost use Rattle.gate_journal.specs.Journal.{disk_of, IsShut, CanAppend, CanDrop, CanSwitch, Stands, HoldsEither, added, without_last, switched, append_failed, switch_failed, end_of, last_of, generation_of, next_side, ready_on, AppendLeaves, DropLeaves, SwitchLeaves};
+
+    /// Opens the journal that a disk holds: it syncs both sides, and reads what they hold, each byte at most
+    /// once. What is held is handed out and not kept; it is None where both sides are closed.
+    pub fn open(alloc: Global, mut disk: D) -> Result<(Journal<D>, Option<Held>), JournalRefused<D>>
+        ensures opened { IfOk result (λ r. IsTrue (D.state disk).honest
+            → Stands r.1 (D.state (disk_of r.0)) r.0) }
+        ensures can { IfOk result (λ r. CanSwitch r.0) }
+        ensures bad { IfBadSides result (λ side place. IsTrue (D.state disk).honest
+            → AreBadAt side place (D.state disk).content) }
+        ensures sides { KeepsSides (D.state disk) (D.state (disk_after result)) }
+        ensures call { IsJournalCall (open_failed result) (D.state disk) (D.state (disk_after result)) }
+        ensures fetched { IsTrue (D.state disk).honest → (D.state (disk_after result)).fetched
+            ≤ (D.state disk).fetched + both_lengths (D.state disk).content }
+    {
+        if sync_both(&mut disk).is_err() {
+            return Err(JournalRefused::Fault(disk));
+        }
+        match read_sides(alloc, &mut disk) {
+            Ok(found) => {
+                let Found {
+                    held,
+                    end,
+                    a_is_ready,
+                    b_is_ready,
+                } = found;
+                let current = current_of(&held, end);
+                let journal = Journal {
+                    disk,
+                    alloc,
+                    current,
+                    a_is_ready,
+                    b_is_ready,
+                    shut: false,
+                    buffer: Vec::new(alloc),
+                };
+                Ok((journal, held))
+            }
+            Err(refused) => match refused {
+                SidesRefused::Bad(side, place) => Err(JournalRefused::Bad(side, place, disk)),
+                SidesRefused::Fault => Err(JournalRefused::Fault(disk)),
+                SidesRefused::Memory => Err(JournalRefused::Memory(disk)),
+            },
+        }
+    }
 
     /// Whether a call of the disk has failed. A journal that is shut stays so: open its disk again.
     pub fn is_shut(&self) -> bool
         ensures { IsTrue result ↔ IsShut self.now }
     {
         self.shut
+    }
+
+    /// The place of the gate that ends the records, where a side is open.
+    pub fn end(&self) -> Option<u64>
+        ensures { result ≡ end_of self.now }
+    {
+        match self.current {
+            None => None,
+            Some(current) => Some(current.end),
+        }
+    }
+
+    /// Whether the journal knows where its last record begins, so that `drop_last` may be called.
+    pub fn knows_last(&self) -> bool
+        ensures { result ≡ is_some (last_of self.now) }
+    {
+        match self.current {
+            None => false,
+            Some(current) => current.last.is_some(),
+        }
+    }
+
+    /// The generation of the open side, or 0.
+    pub fn generation(&self) -> u64
+        ensures { result ≡ generation_of self.now }
+    {
+        match self.current {
+            None => 0,
+            Some(current) => current.generation,
+        }
     }
 
     /// Adds a record behind the others. It makes four calls of the disk, which write each byte once, and
@@ -83,8 +174,8 @@ impl<D: Disk> Journal<D> {
         ensures images { (held : Held) → IsTrue (D.state (disk_of self.old)).honest
             → Stands (Some held) (D.state (disk_of self.old)) self.old
             → AllSince (D.state (disk_of self.old)).clock (HoldsEither (other held.side)
-                (D.state (disk_of self.old)).content (Some held) (Some (added held payload.now)))
-                (D.state (disk_of self.new)) }
+            (D.state (disk_of self.old)).content (Some held) (Some (added held payload.now)))
+            (D.state (disk_of self.new)) }
         ensures call { IsJournalCall (append_failed result) (D.state (disk_of self.old)) (D.state (disk_of self.new)) }
         ensures fetched { (D.state (disk_of self.new)).fetched ≡ (D.state (disk_of self.old)).fetched }
         ensures leaves { AppendLeaves result (length payload.now) self.old self.new }
@@ -121,8 +212,8 @@ impl<D: Disk> Journal<D> {
         ensures images { (held : Held) → IsTrue (D.state (disk_of self.old)).honest
             → Stands (Some held) (D.state (disk_of self.old)) self.old
             → AllSince (D.state (disk_of self.old)).clock (HoldsEither (other held.side)
-                (D.state (disk_of self.old)).content (Some held) (Some (without_last held)))
-                (D.state (disk_of self.new)) }
+            (D.state (disk_of self.old)).content (Some held) (Some (without_last held)))
+            (D.state (disk_of self.new)) }
         ensures call { IsJournalCall (is_err result) (D.state (disk_of self.old)) (D.state (disk_of self.new)) }
         ensures fetched { (D.state (disk_of self.new)).fetched ≡ (D.state (disk_of self.old)).fetched }
         ensures leaves { DropLeaves result self.old self.new }
@@ -159,8 +250,8 @@ impl<D: Disk> Journal<D> {
         ensures images { (held : Option Held) → IsTrue (D.state (disk_of self.old)).honest
             → Stands held (D.state (disk_of self.old)) self.old
             → AllSince (D.state (disk_of self.old)).clock (HoldsEither (other (switched held base.now).side)
-                (D.state (disk_of self.old)).content held (Some (switched held base.now)))
-                (D.state (disk_of self.new)) }
+            (D.state (disk_of self.old)).content held (Some (switched held base.now)))
+            (D.state (disk_of self.new)) }
         ensures too_long { (result ≡ Err SwitchRefused.TooLong)
             ↔ ((MAX_BASE < length base.now) ⊎ (generation_of self.old ≡ 2 ^ 64 - 1)) }
         ensures call { IsJournalCall (switch_failed result) (D.state (disk_of self.old)) (D.state (disk_of self.new)) }
@@ -220,6 +311,65 @@ impl<D: Disk> Journal<D> {
         } = self;
         disk
     }
+}
+
+impl<D: Station> Journal<D> {
+    ghost use Rattle.xs_outside.specs.Counts.{CountsFailure};
+    ghost use Rattle.xs_outside.specs.Streams.{CountsReadFailure, ReadGives, WriteAdds, bytes_given};
+    ghost use Rattle.gate_journal.specs.declared.held.Held.{Held};
+    ghost use Rattle.gate_journal.specs.Journal.{disk_of, IsAsBefore, Stands};
+
+    /// Reads the station's input, also where the journal is shut.
+    pub fn read_in(&mut self, into: &mut [u8]) -> Got
+        requires { 0 < length into.old }
+        ensures gives { ReadGives result into.new (D.left (disk_of self.old)) (D.left (disk_of self.new)) }
+        ensures taken { D.taken (disk_of self.new) ≡ D.taken (disk_of self.old) + bytes_given result }
+        ensures faults { CountsReadFailure result (D.read_faults (disk_of self.old)) (D.read_faults (disk_of self.new)) }
+        ensures relation { D.reads result (disk_of self.old) (disk_of self.new) }
+        ensures journal { IsAsBefore self.old self.new }
+        ensures stands { (held : Option Held) → Stands held (D.state (disk_of self.old)) self.old
+            → Stands held (D.state (disk_of self.new)) self.new }
+    {
+        Source::read(&mut self.disk, into)
+    }
+
+    /// Writes to the station's output, also where the journal is shut.
+    pub fn write_out(&mut self, bytes: &[u8]) -> Result<(), Failed>
+        ensures adds { WriteAdds result bytes.now (D.written (disk_of self.old)) (D.written (disk_of self.new)) }
+        ensures faults { CountsFailure result (D.write_faults (disk_of self.old)) (D.write_faults (disk_of self.new)) }
+        ensures relation { D.writes result (disk_of self.old) (disk_of self.new) }
+        ensures journal { IsAsBefore self.old self.new }
+        ensures stands { (held : Option Held) → Stands held (D.state (disk_of self.old)) self.old
+            → Stands held (D.state (disk_of self.new)) self.new }
+    {
+        Sink::write(&mut self.disk, bytes)
+    }
+}
+
+/// What a journal in use knows of what its disk holds.
+fn current_of(held: &Option<Held>, end: u64) -> Option<Current>
+    ensures { PointsTo held.now end result }
+{
+    match held {
+        None => None,
+        Some(held) => Some(Current {
+            side: held.side,
+            generation: held.generation,
+            end,
+            last: last_of(held.places.as_slice()),
+        }),
+    }
+}
+
+/// The last of some places.
+fn last_of(places: &[u64]) -> Option<u64>
+    ensures { IfSome result (λ place. (0 < length places.now)
+        × (place ≡ slice_index places.now (length places.now - 1))) }
+{
+    if places.is_empty() {
+        return None;
+    }
+    Some(places[places.len() - 1])
 }
 
 /// Whether a side that was ready still is, when one is made.

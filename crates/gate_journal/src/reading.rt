@@ -89,11 +89,11 @@ pub fn read_records<D: Disk>(
         → Shows (on window.old.side (D.state disk.old).content) window.old }
     ensures records { OnOk result (IsTrue (D.state disk.old).honest
         → AddsBetween (on window.old.side (D.state disk.old).content) window.old.place window.new.place
-            records.old records.new places.old.items places.new.items
+        records.old records.new places.old.items places.new.items
         × EndsAt (on window.old.side (D.state disk.old).content) window.new.place) }
     ensures bad { IfBad result (λ place. IsTrue (D.state disk.old).honest
         → AddsBetween (on window.old.side (D.state disk.old).content) window.old.place place
-            records.old records.new places.old.items places.new.items
+        records.old records.new places.old.items places.new.items
         × BreaksAt (on window.old.side (D.state disk.old).content) place) }
     ensures reads { ReadsOn (D.state disk.old) (D.state disk.new) window.old window.new }
     ensures faults { CountsFault result (D.state disk.old).faults (D.state disk.new).faults }

@@ -4,7 +4,7 @@ ghost use Rattle.std.specs.Prelude.{◌≡◌, ◌+◌, ◌^◌, ◌<◌, ◌≤
 ghost use Rattle.gate_journal.specs.Reading.{Adds, StopsAt};
 
 use crate::Records;
-use crate::layout::{Next, RECORD_HEAD, next_record};
+use crate::parts::{Next, RECORD_HEAD, next_record};
 use std::alloc::AllocError;
 
 /// Why the records at hand end.

@@ -56,7 +56,7 @@ pub struct Window {
 }
 
 impl Window {
-    ghost use Rattle.gate_journal.specs.declared.layout.TheConstants.{HEAD};
+    ghost use Rattle.gate_journal.specs.declared.parts.TheConstants.{HEAD};
     ghost use Rattle.gate_journal.specs.Reading.{ReadsOn, CountsReadFault, Shows, left_behind};
 
     /// The first piece of a side.

@@ -1,6 +1,6 @@
-use Rattle.std.proofs.Common.{◌≡◌, List, [], ◌∷◌, ◌++◌, length, refl, ◌∙◌, ap, rules}
+use Rattle.std.proofs.Common.{◌≡◌, [], ◌∷◌, ◌++◌, length, ◌∙◌, ap, rules}
 use Rattle.gate_journal.specs.Layout.{four_bytes}
-use Rattle.gate_journal.specs.declared.layout.TheConstants.{CLOSED}
+use Rattle.gate_journal.specs.declared.parts.TheConstants.{CLOSED}
 use Rattle.gate_journal.proofs.journal.fill_record.Goals as goal
 
 pub returns : goal.returns

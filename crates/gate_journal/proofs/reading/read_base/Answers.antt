@@ -1,8 +1,8 @@
-use Rattle.std.proofs.Common.{◌≡◌, IsTrue, ◌+◌, ◌-◌, ◌≤◌, ◌++◌, length, take, drop, subst, sym, ◌∙◌, ap, arith, rules, ℕ, List, length-append, length-take, refl}
+use Rattle.std.proofs.Common.{◌≡◌, IsTrue, ◌+◌, ◌-◌, ◌≤◌, ◌++◌, length, take, drop, subst, sym, ◌∙◌, ap, arith, rules, ℕ, List, length-append}
 use Rattle.std.proofs.lemmas.List.{length-take-le}
 use Rattle.xs_outside.specs.Disk.{on}
 use Rattle.gate_journal.specs.Reading.{Shows}
-use Rattle.gate_journal.proofs.WindowLemmas.{parts_joined, reads_on, same_text, base_grows}
+use Rattle.gate_journal.proofs.WindowLemmas.{reads_on, same_text, base_grows}
 use Rattle.gate_journal.proofs.reading.read_base.Goals as goal
 
 pub returns-then-len-size-clause-base : goal.returns-then-len-size-clause-base

@@ -1,4 +1,4 @@
-use Rattle.std.proofs.Common.{◌≡◌, ◌+◌, ◌∷◌, [], ◌++◌, length, take, drop, sym, ◌∙◌, ap, arith}
+use Rattle.std.proofs.Common.{◌+◌, ◌∷◌, [], ◌++◌, take, sym, ◌∙◌, ap, arith}
 use Rattle.std.proofs.lemmas.List.{length-take-le, take_rest}
 use Rattle.gate_journal.proofs.WindowLemmas.{whole_record, record_taken, payload_taken, adds_more}
 use Rattle.gate_journal.proofs.scan.take_records.Goals as goal
@@ -18,8 +18,11 @@ records-preserved c =
     let size = c.in-Record.size in
     let added = c.records.invariant.added in record {
       inside = whole_record text at size here.1 here.2 c.records.invariant.inside front here.3;
-      added = (added.0 ++ here.1 ∷ [], adds_more c.args.place (take at text) (take (at + 5 + size) text) here.1 added.0 c.args.records.now c.records.records c.push.new.self c.args.places.now.items c.records.places.items c.push-in-Record.new.self.items
-        added.1 (omega (arith, here.0.0, here.3), omega (arith, here.0.1, here.3)) (record_taken text at size here.1 here.2 front here.3)
-        (c.in_ok-push-in-Record.ensures.ok ∙ ap (λ l. c.records.records ++ l ∷ []) (payload_taken text at size here.1 here.2 front here.3))
-        (c.in_ok-push-in-Record-2.ensures.items ∙ ap (λ n. c.records.places.items ++ (c.args.place + n) ∷ []) (sym (length-take-le at text c.records.invariant.inside))));
+      added = (
+        added.0 ++ here.1 ∷ [],
+        adds_more c.args.place (take at text) (take (at + 5 + size) text) here.1 added.0 c.args.records.now c.records.records c.push.new.self c.args.places.now.items c.records.places.items c.push-in-Record.new.self.items
+            added.1 (omega (arith, here.0.0, here.3), omega (arith, here.0.1, here.3)) (record_taken text at size here.1 here.2 front here.3)
+            (c.in_ok-push-in-Record.ensures.ok ∙ ap (λ l. c.records.records ++ l ∷ []) (payload_taken text at size here.1 here.2 front here.3))
+            (c.in_ok-push-in-Record-2.ensures.items ∙ ap (λ n. c.records.places.items ++ (c.args.place + n) ∷ []) (sym (length-take-le at text c.records.invariant.inside))),
+      );
     }

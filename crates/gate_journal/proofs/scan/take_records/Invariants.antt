@@ -1,4 +1,4 @@
-use Rattle.std.proofs.Common.{◌≡◌, ◌-◌, ◌≤◌, List, ℕ, length, take}
+use Rattle.std.proofs.Common.{◌-◌, ◌≤◌, List, ℕ, length, take}
 use Rattle.gate_journal.specs.Reading.{Adds}
 use Rattle.gate_journal.proofs.scan.take_records.Given as goal
 

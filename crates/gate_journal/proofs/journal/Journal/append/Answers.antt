@@ -1,12 +1,12 @@
-use Rattle.std.proofs.Common.{◌≡◌, IsTrue, ◌+◌, ◌<◌, ◌≤◌, length, subst, sym, ◌∙◌, ap, arith, rules}
+use Rattle.std.proofs.Common.{◌≡◌, subst, sym, ◌∙◌, arith, rules}
 use Rattle.std.specs.Prelude.{Some}
 use Rattle.std.proofs.lemmas.List.{length_push}
 use Rattle.xs_outside.specs.declared.Side.TheVariants.{A, B}
 use Rattle.xs_outside.specs.Disk.{on, Changes}
-use Rattle.gate_journal.specs.declared.layout.TheConstants.{OPEN}
+use Rattle.gate_journal.specs.declared.parts.TheConstants.{OPEN}
 use Rattle.gate_journal.specs.Gate.{IsOpening, StandsBehind}
 use Rattle.gate_journal.specs.Sides.{content_of}
-use Rattle.gate_journal.specs.Journal.{Knows, KnowsEnd, added}
+use Rattle.gate_journal.specs.Journal.{Knows, added}
 use Rattle.gate_journal.proofs.HoldLemmas.{behind_gate, append_image, append_done, still_ready, held_is_open, text_length-added, text_length-without_added}
 use Rattle.gate_journal.proofs.OkLemmas.{not_failed}
 use Rattle.gate_journal.proofs.journal.Journal.append.Goals as goal

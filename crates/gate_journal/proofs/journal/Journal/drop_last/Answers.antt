@@ -1,10 +1,10 @@
-use Rattle.std.proofs.Common.{◌≡◌, IsTrue, ◌+◌, ◌<◌, ◌≤◌, length, subst, sym, ◌∙◌, ap, arith, rules, [], ◌∷◌}
+use Rattle.std.proofs.Common.{◌≡◌, ◌+◌, ◌<◌, ◌≤◌, length, subst, sym, arith, rules, [], ◌∷◌}
 use Rattle.std.specs.Prelude.{Some, IfSome}
 use Rattle.xs_outside.specs.declared.Side.TheVariants.{A, B}
 use Rattle.xs_outside.specs.Disk.{on, Changes, Torn, Written}
-use Rattle.gate_journal.specs.declared.layout.TheConstants.{CLOSED}
+use Rattle.gate_journal.specs.declared.parts.TheConstants.{CLOSED}
 use Rattle.gate_journal.specs.Sides.{content_of}
-use Rattle.gate_journal.specs.Journal.{Knows, KnowsEnd, without_last, text_length}
+use Rattle.gate_journal.specs.Journal.{Knows, without_last, text_length}
 use Rattle.gate_journal.proofs.HoldLemmas.{still_ready, held_is_open}
 use Rattle.gate_journal.proofs.DropLemmas.{drop_image, drop_done, last_inside}
 use Rattle.gate_journal.proofs.OkLemmas.{not_failed}

@@ -1,8 +1,6 @@
-use Rattle.std.proofs.Common.{◌≡◌, ◌↔◌, IsTrue, ℕ, ◌+◌, ◌^◌, ◌<◌, ◌≤◌, length, subst, sym, ◌∙◌, ap, arith, rules, List}
-use Rattle.std.specs.Prelude.{Some}
+use Rattle.std.proofs.Common.{◌≡◌, ◌↔◌, IsTrue, ℕ, ◌+◌, ◌^◌, ◌<◌, subst, sym, ◌∙◌, ap, arith, rules, List}
 use Rattle.xs_outside.specs.declared.Side.TheVariants.{A, B}
 use Rattle.xs_outside.specs.Disk.{on, Changes}
-use Rattle.gate_journal.specs.declared.layout.TheConstants.{MAX_BASE}
 use Rattle.gate_journal.specs.Gate.{IsBeingMade, BeginsWith}
 use Rattle.gate_journal.specs.Sides.{content_of}
 use Rattle.gate_journal.specs.Journal.{switched, flag_after}

@@ -1,4 +1,4 @@
-use Rattle.std.proofs.Common.{◌≡◌, ◌≤◌, List, ℕ, length, ◌++◌, ◌∷◌, [], ◌∙◌, sym, ap, subst, arith, length-append, rules}
+use Rattle.std.proofs.Common.{◌≡◌, ◌≤◌, length, ◌++◌, ◌∷◌, [], ◌∙◌, sym, ap, subst, arith, length-append, rules}
 use Rattle.gate_journal.specs.Pieces.{pieces, Ends}
 use Rattle.gate_journal.proofs.PieceLemmas.{Ends-push, pieces-push}
 use Rattle.gate_journal.proofs.records.Records.push.Goals as goal

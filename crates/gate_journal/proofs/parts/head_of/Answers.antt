@@ -1,6 +1,6 @@
 use Rattle.std.proofs.Common.{arith}
 use Rattle.gate_journal.proofs.TextLemmas.{head_first}
-use Rattle.gate_journal.proofs.layout.head_of.Goals as goal
+use Rattle.gate_journal.proofs.parts.head_of.Goals as goal
 
 pub returns : goal.returns
 returns c = record {

@@ -1,9 +1,9 @@
-use Rattle.std.proofs.Common.{◌≡◌, ℕ, ◌⊎◌, ◌<◌, inl, inr, take, drop, length, arith, length-drop, refl}
-use Rattle.std.proofs.lemmas.List.{length-take-le, drop-drop}
-use Rattle.gate_journal.specs.declared.layout.TheConstants.{MAX_RECORD}
-use Rattle.gate_journal.proofs.TextLemmas.{gate_first, size_first, record_first}
-use Rattle.gate_journal.proofs.layout.next_record.Goals as goal
-use Rattle.gate_journal.proofs.layout.next_record.Goals.{then-size-eq0-via-then-size-eq0, then-size-eq0-via-else-size-eq0+then-size-gt-MAX_RECORD}
+use Rattle.std.proofs.Common.{◌≡◌, ◌⊎◌, ◌<◌, inl, inr, take, drop, arith, length-drop, refl}
+use Rattle.std.proofs.lemmas.List.{length-take-le}
+use Rattle.gate_journal.specs.declared.parts.TheConstants.{MAX_RECORD}
+use Rattle.gate_journal.proofs.TextLemmas.{size_first, record_first}
+use Rattle.gate_journal.proofs.parts.next_record.Goals as goal
+use Rattle.gate_journal.proofs.parts.next_record.Goals.{then-size-eq0-via-then-size-eq0, then-size-eq0-via-else-size-eq0+then-size-gt-MAX_RECORD}
 
 pub returns-then-size-eq0 : goal.returns-then-size-eq0
 returns-then-size-eq0 c =
