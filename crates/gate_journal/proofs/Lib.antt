@@ -1,0 +1,13 @@
+pub mod DropLemmas
+pub mod FrontLemmas
+pub mod GateLemmas
+pub mod HoldLemmas
+pub mod NumberLemmas
+pub mod OkLemmas
+pub mod OpenedLemmas
+pub mod OpeningLemmas
+pub mod PieceLemmas
+pub mod ReadLemmas
+pub mod SwitchLemmas
+pub mod TextLemmas
+pub mod WindowLemmas

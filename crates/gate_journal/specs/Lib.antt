@@ -1,0 +1,14 @@
+pub mod Found
+pub mod Gate
+pub mod Journal
+pub mod Layout
+pub mod Opened
+pub mod Opening
+pub mod Parts
+pub mod Pieces
+pub mod Reading
+pub mod Reads
+pub mod Ready
+pub mod Refusals
+pub mod Runs
+pub mod Sides
