@@ -31,7 +31,7 @@ copy_program() {
 assemble() {
     local line below
     if grep -q "^$1:" "$room/crates.txt"; then return; fi
-    line=$(grep -h "^$1:" "$top/bench/programs/crates.txt" "$top/crates.txt") || return 0
+    line=$(grep -h "^$1:" "$top/bench/programs/programs.txt" "$top/crates.txt") || return 0
     for below in ${line#*:}; do assemble "$below"; done
     echo "$line" >>"$room/crates.txt"
     mkdir -p "$room/crates/$1"
