@@ -2,6 +2,7 @@
 
 use crate::tests::given::{Given, KINDS, expr, gives, value};
 use crate::*;
+use std::alloc::Global;
 use std::test::Fail;
 
 #[test]
@@ -54,18 +55,23 @@ fn entries_are_sorted_and_keep_the_last(rt: HostRuntime) -> Result<(), Fail> {
 /// Names in the order in which they are put, which is not that of their bytes.
 const NAMED: [(&str, u8); 4] = [("b", 1), ("", 2), ("\u{e9}", 3), ("a", 4)];
 
-#[test]
-fn names_stand_in_the_order_of_insertion(rt: HostRuntime) -> Result<(), Fail> {
-    let mut names: Names<u8> = Names::new(rt.alloc());
-    assert!(rt; names.is_empty());
+/// The names of [`NAMED`], in their order.
+fn named(alloc: Global) -> Result<Names<u8>, Fail> {
+    let mut names: Names<u8> = Names::new(alloc);
     for (key, number) in NAMED {
-        if names.get(key.as_bytes()).is_none() {
-            let refused = names
-                .put_last(Text::from_str(rt.alloc(), key)?, number)
-                .is_err();
-            assert!(rt; !refused, "{key}");
+        if names.get(key.as_bytes()).is_some() {
+            return Err(Fail::new("named twice"));
+        }
+        if names.put_last(Text::from_str(alloc, key)?, number).is_err() {
+            return Err(Fail::new("no memory"));
         }
     }
+    Ok(names)
+}
+
+#[test]
+fn names_stand_in_the_order_of_insertion(rt: HostRuntime) -> Result<(), Fail> {
+    let names = named(rt.alloc())?;
     assert_eq!(rt; names.len(), 4);
     for (place, (key, number)) in NAMED.iter().enumerate() {
         let (name, value) = names.at(place).ok_or("no name")?;
@@ -73,9 +79,22 @@ fn names_stand_in_the_order_of_insertion(rt: HostRuntime) -> Result<(), Fail> {
         assert_eq!(rt; *value, *number, "{key}");
         assert_eq!(rt; names.place_of(key.as_bytes()), Some(place), "{key}");
     }
+    Ok(())
+}
+
+#[test]
+fn what_is_not_named_is_not_found(rt: HostRuntime) -> Result<(), Fail> {
+    let names = named(rt.alloc())?;
+    assert!(rt; !names.is_empty());
     assert!(rt; names.at(4).is_none());
     assert_eq!(rt; names.place_of(b"c"), None);
     assert_eq!(rt; names.place_of(b"\xe9"), None);
+    Ok(())
+}
+
+#[test]
+fn a_name_that_is_taken_out_is_gone(rt: HostRuntime) -> Result<(), Fail> {
+    let mut names = named(rt.alloc())?;
     assert_eq!(rt; names.take(b""), Some(2));
     assert_eq!(rt; names.take(b""), None);
     assert_eq!(rt; names.get(b"").copied(), None);
@@ -86,11 +105,16 @@ fn names_stand_in_the_order_of_insertion(rt: HostRuntime) -> Result<(), Fail> {
 }
 
 #[test]
-fn copies_evaluate_to_the_same(rt: HostRuntime) -> Result<(), Fail> {
+fn a_copied_expression_evaluates_to_the_same(rt: HostRuntime) -> Result<(), Fail> {
     for given in KINDS {
         let copied = copy_expr(rt.alloc(), &expr(rt.alloc(), given)?)?;
         assert!(rt; gives(rt.alloc(), &copied, Ok(given))?, "{given:?}");
     }
+    Ok(())
+}
+
+#[test]
+fn a_copied_action_has_the_same_parts(rt: HostRuntime) -> Result<(), Fail> {
     let cancel = Action::Cancel {
         id: expr(rt.alloc(), Given::Text("p"))?,
     };
