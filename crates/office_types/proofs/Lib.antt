@@ -9,3 +9,4 @@ mod CanonicalLineLemmas
 mod CallerLemmas
 mod ChangeLemmas
 mod LetterLemmas
+mod ValidityListLemmas

@@ -1,5 +1,5 @@
 -- What the rules of an office read of its definitions, as plain lists.
-use Rattle.std.specs.Prelude.{ℕ, List, [], Option, slice_get, slice_index_or, position}
+use Rattle.std.specs.Prelude.{ℕ, ◌<◌, List, [], length, Option, All, IfSome, slice_get, slice_index_or, position}
 use Rattle.std.specs.Option.{option_map_or}
 use Rattle.std.specs.Str.{bytes_eq}
 use Rattle.node_tree.specs.declared.node.Node.{Node}
@@ -20,6 +20,10 @@ pub record ActorLogic : Type 0 where
 pub record OfficeDefinitions : Type 0 where
   pub machines : List MachineOutline
   pub actors : List ActorLogic
+
+-- each row of the table of actors that is of a machine names one of the machines
+abbrev pub AreLinked : OfficeDefinitions → Type 0
+AreLinked definitions = All (λ (logic : ActorLogic). IfSome logic.machine (λ machine. machine < length definitions.machines)) definitions.actors
 
 -- the number of the machine with this id
 abbrev pub machine_named : OfficeDefinitions → List ℕ → Option ℕ

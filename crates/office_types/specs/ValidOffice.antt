@@ -165,11 +165,16 @@ pub record IsCaller (caller : Caller) : Type 0 where
 
 -- ---- the office
 
--- no next number is above 2^62
+-- the number of what comes next: numbers begin at 1, and none is above 2^62
+pub record IsNextNumber (number : ℕ) : Type 0 where
+  pub numbered : 0 < number
+  pub limit : number ≤ MAX_NEXT_NUMBER
+
+-- what the next actor, letter and timer get
 pub record HasNumbersLeft (state : OfficeState) : Type 0 where
-  pub actor : state.next_actor ≤ MAX_NEXT_NUMBER
-  pub letter : state.next_letter ≤ MAX_NEXT_NUMBER
-  pub timer : state.next_timer ≤ MAX_NEXT_NUMBER
+  pub actor : IsNextNumber state.next_actor
+  pub letter : IsNextNumber state.next_letter
+  pub timer : IsNextNumber state.next_timer
 
 -- the limits of what an office holds
 pub record IsWithinLimits (state : OfficeState) : Type 0 where
