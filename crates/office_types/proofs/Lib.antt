@@ -10,3 +10,4 @@ mod CallerLemmas
 mod ChangeLemmas
 mod LetterLemmas
 mod ValidityListLemmas
+mod ValidityTreeLemmas

@@ -19,7 +19,7 @@ use Rattle.office_types.specs.Entries.{AreLegal, Macrostep, after}
 use Rattle.office_types.specs.JsonValues.{MeansValue}
 use Rattle.office_types.specs.RequestLines.{IsEntryText, IsRequest, IsRequestLine, canonical_line, entry_text}
 use Rattle.office_types.specs.Requests.{IsNumber}
-use Rattle.office_types.specs.ValidOffice.{letters_of}
+use Rattle.office_types.specs.ValidOffice.{IsValidOffice, letters_of}
 
 -- a layer as those of values in a program are: numbers of 64 bits, texts in UTF-8, and keys in UTF-8 that rise
 abbrev pub IsPlainLayer : Value-F Value → Type 0
@@ -85,3 +85,11 @@ LettersWaitedBefore =
     (definitions : OfficeDefinitions) (macrostep : Macrostep) (state : OfficeState) (entries : List Entry) (letter : Letter)
     → Contains (letters_of (after definitions macrostep state entries).actors) letter → letter.number < state.next_letter
     → Contains (letters_of state.actors) letter
+
+-- ---- validity
+
+-- a decision on a request that a line gives keeps an office valid
+abbrev pub DecisionsKeepValidity : Type 0
+DecisionsKeepValidity =
+    (definitions : OfficeDefinitions) (state : OfficeState) (request : Request) → IsValidOffice definitions state → IsRequest request
+    → IsValidOffice definitions (decided definitions state request).after

@@ -1,6 +1,6 @@
 //! What follows from the definitions of an office.
 
-ghost use Rattle.office_types.specs.Laws.{CanonicalLinesAreLines, CompactTextMeansItsValue, EntriesReadBack, LettersWaitedBefore, MeantValuesArePlain, RepeatsGetTheReply, RequestsStandOnce};
+ghost use Rattle.office_types.specs.Laws.{CanonicalLinesAreLines, CompactTextMeansItsValue, DecisionsKeepValidity, EntriesReadBack, LettersWaitedBefore, MeantValuesArePlain, RepeatsGetTheReply, RequestsStandOnce};
 ghost use Rattle.office_types.specs.RequestLines.{RequestIsUnique};
 ghost use Rattle.office_types.specs.WorkedRows.{WorkedExamples};
 
@@ -51,4 +51,9 @@ pub fn repeats_get_the_reply()
 /// A letter that waits after entries, and whose number was given before them, waited before.
 pub fn letters_waited_before()
     ensures { LettersWaitedBefore }
+{}
+
+/// A decision on a request keeps an office valid.
+pub fn decisions_keep_validity()
+    ensures { DecisionsKeepValidity }
 {}

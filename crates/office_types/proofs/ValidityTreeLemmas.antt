@@ -1,0 +1,272 @@
+-- The tree of actors: parents and children fit each other, and no chain of parents is too long.
+use Rattle.std.proofs.Common.{◌≡◌, ◌≢◌, ◌⊎◌, inl, inr, ℕ, suc, zero, ◌+◌, ◌<◌, ◌≤◌, Bool, true, false, cond, not, ◌&&◌, ◌||◌, true≢false, List, [], ◌∷◌, ◌++◌, length, map, refl, sym, ap, subst, ◌∙◌, arith}
+use Rattle.std.specs.Prelude.{Option, None, Some, filter, find, fold, sum_by, count_by, nat_eq, if◌then◌else◌, ⊤}
+use Rattle.std.specs.List.{AllByRecursion, list_any}
+use Rattle.std.specs.Map.{lookup}
+use Rattle.std.specs.Option.{option_and_then, option_map, option_map_or, option_or}
+use Rattle.std.specs.Str.{bytes_eq}
+use Rattle.std.proofs.lemmas.Bool.{cases_Bool, eqb-true, eqb-false, eq-eqb, ne_eqb}
+use Rattle.std.proofs.lemmas.List.Sums.{sum_by-cons, sum_by-append}
+use Rattle.std.proofs.lemmas.Slice.Eq.{bytes_eq-Decides}
+use Rattle.office_types.specs.declared.office.ActorRecord.{ActorRecord}
+use Rattle.office_types.specs.declared.office.OfficeState.{OfficeState}
+use Rattle.office_types.specs.Effects.{is_within_levels, with_kid, without_kid}
+use Rattle.office_types.specs.Ends.{has_parent_among, is_among, subtree_of}
+use Rattle.office_types.specs.Records.{is_active}
+use Rattle.office_types.specs.ValidOffice.{IsGiven, is_kid}
+use Rattle.office_types.proofs.ValidityListLemmas.{Rises, at, at_number, each_at, each_look, each_map, each_mono, each_passing, each_push, look, look_each, look_filter, look_map, look_none, look_number, look_push, pairs_filter, pairs_map, pairs_push, rises_at}
+
+-- ---- records by their numbers
+
+abbrev pub number_of : ActorRecord → ℕ
+number_of actor = actor.number
+
+-- the record with this number
+abbrev pub record_in : List ActorRecord → ℕ → Option ActorRecord
+record_in actors n = look number_of actors n
+
+-- the parent of the actor with this number
+abbrev pub parent_in : List ActorRecord → ℕ → Option ℕ
+parent_in actors n = option_and_then (λ (actor : ActorRecord). actor.parent) (record_in actors n)
+
+pub mapped : {X Y : Type 0} (f : X → Y) (o : Option X) (y : Y) → option_map f o ≡ Some y → (x : X) × (o ≡ Some x) × (f x ≡ y)
+mapped f None y e = absurd (cc)
+mapped f (Some x) y e = (x, refl, cc)
+
+pub chained : {X Y : Type 0} (f : X → Option Y) (o : Option X) (y : Y) → option_and_then f o ≡ Some y → (x : X) × (o ≡ Some x) × (f x ≡ Some y)
+chained f None y e = absurd (cc)
+chained f (Some x) y e = (x, refl, e)
+
+-- ---- levels
+
+-- what `is_within_levels` says, of records alone
+abbrev pub within : List ActorRecord → ℕ → ℕ → Bool
+within actors zero n = false
+within actors (suc levels) n = option_map_or (within actors levels) (parent_in actors n) true
+
+pub within_is : (state : OfficeState) (levels n : ℕ) → is_within_levels state levels n ≡ within state.actors levels n
+unfolding is_within_levels
+within_is state zero n = refl
+within_is state (suc levels) n = by_parent (within_is state levels) (parent_in state.actors n) where
+  by_parent : ((p : ℕ) → is_within_levels state levels p ≡ within state.actors levels p) → (parent : Option ℕ)
+      → option_map_or (is_within_levels state levels) parent true ≡ option_map_or (within state.actors levels) parent true
+  by_parent rest None = refl
+  by_parent rest (Some p) = rest p
+
+-- what holds of all members of a chain of parents
+pub within_same : (P : ℕ → Type 0) (actors others : List ActorRecord) → ((n p : ℕ) → P n → parent_in actors n ≡ Some p → P p) → ((n : ℕ) → P n → parent_in others n ≡ parent_in actors n)
+    → (levels n : ℕ) → P n → within others levels n ≡ within actors levels n
+within_same P actors others above same zero n is = refl
+within_same P actors others above same (suc levels) n is =
+    ap (λ (o : Option ℕ). option_map_or (within others levels) o true) (same n is) ∙ by_parent (within_same P actors others above same levels) (parent_in actors n) refl where
+  by_parent : ((p : ℕ) → P p → within others levels p ≡ within actors levels p) → (o : Option ℕ) → parent_in actors n ≡ o → option_map_or (within others levels) o true ≡ option_map_or (within actors levels) o true
+  by_parent rest None e = refl
+  by_parent rest (Some p) e = rest p (above n p is e)
+
+-- ---- those below an actor
+
+-- an actor's parent has a smaller number
+abbrev pub ParentIsSmaller : ActorRecord → Type 0
+ParentIsSmaller actor = (p : ℕ) → actor.parent ≡ Some p → p < actor.number
+
+-- one more is found below
+abbrev pub add_below : List ℕ → ActorRecord → List ℕ
+add_below found actor = if has_parent_among found actor then found ++ actor.number ∷ [] else found
+
+-- those found, and all below them
+abbrev pub below : List ActorRecord → List ℕ → List ℕ
+below actors found = fold add_below found actors
+
+pub subtree_is : (state : OfficeState) (n : ℕ) → subtree_of state n ≡ below state.actors (n ∷ [])
+unfolding subtree_of
+subtree_is state n = refl
+
+among_push : (found : List ℕ) (c n : ℕ) → is_among (found ++ c ∷ []) n ≡ (is_among found n || is_among (c ∷ []) n)
+among_push [] c n = refl
+among_push (m ∷ found) c n = by_test (among_push found c n) (nat_eq n m) where
+  by_test : is_among (found ++ c ∷ []) n ≡ (is_among found n || is_among (c ∷ []) n) → (b : Bool) → (b || is_among (found ++ c ∷ []) n) ≡ ((b || is_among found n) || is_among (c ∷ []) n)
+  by_test rest true = refl
+  by_test rest false = rest
+
+pub among_one : (c n : ℕ) → is_among (c ∷ []) n ≡ true → n ≡ c
+among_one c n is = by_test (nat_eq n c) refl is where
+  by_test : (b : Bool) → nat_eq n c ≡ b → (b || false) ≡ true → n ≡ c
+  by_test true e is = eqb-true n c e
+  by_test false e is = absurd (true≢false (sym is))
+
+among_itself : (c : ℕ) → is_among (c ∷ []) c ≡ true
+among_itself c = ap (λ (b : Bool). b || false) (eq-eqb c c refl)
+
+-- what is among those found after one more was looked at
+among_add : (found : List ℕ) (actor : ActorRecord) (n : ℕ) → is_among found n ≡ true → is_among (add_below found actor) n ≡ true
+among_add found actor n is = by_test (has_parent_among found actor) where
+  by_test : (b : Bool) → is_among (if b then found ++ actor.number ∷ [] else found) n ≡ true
+  by_test true = among_push found actor.number n ∙ ap (λ (b : Bool). b || is_among (actor.number ∷ []) n) is
+  by_test false = is
+
+among_added : (found : List ℕ) (actor : ActorRecord) (n : ℕ) → is_among (add_below found actor) n ≡ true → (is_among found n ≡ true) ⊎ ((actor.number ≡ n) × (has_parent_among found actor ≡ true))
+among_added found actor n is = by_test (has_parent_among found actor) refl is where
+  by_part : (b : Bool) → is_among found n ≡ b → (b || is_among (actor.number ∷ []) n) ≡ true → has_parent_among found actor ≡ true → (is_among found n ≡ true) ⊎ ((actor.number ≡ n) × (has_parent_among found actor ≡ true))
+  by_part true e is child = inl e
+  by_part false e is child = inr (sym (among_one actor.number n is), child)
+
+  by_test : (b : Bool) → has_parent_among found actor ≡ b → is_among (if b then found ++ actor.number ∷ [] else found) n ≡ true → (is_among found n ≡ true) ⊎ ((actor.number ≡ n) × (has_parent_among found actor ≡ true))
+  by_test true child is = by_part (is_among found n) refl (sym (among_push found actor.number n) ∙ is) child
+  by_test false child is = inl is
+
+pub below_found : (actors : List ActorRecord) (found : List ℕ) (n : ℕ) → is_among found n ≡ true → is_among (below actors found) n ≡ true
+below_found [] found n is = is
+below_found (actor ∷ actors) found n is = below_found actors (add_below found actor) n (among_add found actor n is)
+
+has_parent : (found : List ℕ) (actor : ActorRecord) → has_parent_among found actor ≡ true → (p : ℕ) × (actor.parent ≡ Some p) × (is_among found p ≡ true)
+has_parent found actor is = by_parent actor.parent refl is where
+  by_parent : (o : Option ℕ) → actor.parent ≡ o → option_map_or (is_among found) o false ≡ true → (p : ℕ) × (actor.parent ≡ Some p) × (is_among found p ≡ true)
+  by_parent None e is = absurd (true≢false (sym is))
+  by_parent (Some p) e is = (p, e, is)
+
+parent_has : (found : List ℕ) (actor : ActorRecord) (p : ℕ) → actor.parent ≡ Some p → is_among found p ≡ true → has_parent_among found actor ≡ true
+parent_has found actor p e is = ap (λ (o : Option ℕ). option_map_or (is_among found) o false) e ∙ is
+
+-- an actor with its parent among some
+abbrev pub HasParentAmong : List ActorRecord → List ℕ → ℕ → Type 0
+HasParentAmong actors found n = (actor : ActorRecord) × (p : ℕ) × (record_in actors n ≡ Some actor) × (actor.parent ≡ Some p) × (is_among found p ≡ true)
+
+-- whoever stands below was found at first, or its parent stands below
+pub below_cases : (actors : List ActorRecord) (found : List ℕ) (n : ℕ) → Rises number_of actors → is_among (below actors found) n ≡ true → (is_among found n ≡ true) ⊎ HasParentAmong actors (below actors found) n
+below_cases [] found n rising is = inl is
+below_cases (actor ∷ actors) found n rising is =
+    elim (below_cases actors (add_below found actor) n rising.1 is) [
+      | inl first ↦ elim (among_added found actor n first) [
+        | inl before ↦ inl before
+        | inr here ↦ (
+          let up = has_parent found actor here.1 in
+          inr (actor, up.0, ap (λ (b : Bool). cond b (Some actor) (record_in actors n)) (eq-eqb actor.number n here.0), up.1, below_found actors (add_below found actor) up.0 (among_add found actor up.0 up.2)))
+      ]
+      | inr (c, p, seen, parent, is) ↦ (
+        let same : c.number ≡ n = look_number number_of actors n c seen in
+        let less : actor.number < c.number = each_look number_of (λ (z : ActorRecord). actor.number < z.number) actors rising.0 n c seen in
+        inr (c, p, ap (λ (b : Bool). cond b (Some actor) (record_in actors n)) (ne_eqb actor.number n (omega arith)) ∙ seen, parent, is))
+    ]
+
+-- whoever has its parent below stands below
+pub below_closed : (actors : List ActorRecord) (found : List ℕ) (n p : ℕ) (a : ActorRecord) → Rises number_of actors → AllByRecursion ParentIsSmaller actors
+    → record_in actors n ≡ Some a → a.parent ≡ Some p → is_among (below actors found) p ≡ true → is_among (below actors found) n ≡ true
+below_closed [] found n p a rising smaller seen parent is = absurd (cc)
+below_closed (actor ∷ actors) found n p a rising smaller seen parent is =
+    by_number (below_closed actors (add_below found actor) n p a rising.1 smaller.1) (nat_eq actor.number n) refl seen where
+  first : actor ≡ a → actor.number ≡ n → is_among (add_below found actor) p ≡ true → is_among (below actors (add_below found actor)) n ≡ true
+  first same number is =
+      let its_parent : actor.parent ≡ Some p = ap (λ (z : ActorRecord). z.parent) same ∙ parent in
+      elim (among_added found actor p is) [
+        | inl before ↦ below_found actors (add_below found actor) n
+            (ap (λ (b : Bool). is_among (if b then found ++ actor.number ∷ [] else found) n) (parent_has found actor p its_parent before) ∙ among_push found actor.number n
+            ∙ subst (λ (m : ℕ). (is_among found m || is_among (actor.number ∷ []) m) ≡ true) number (either (is_among found actor.number) (among_itself actor.number)))
+        | inr here ↦ absurd (let less : p < actor.number = smaller.0 p its_parent in omega (arith, here.0))
+      ] where
+    either : (b : Bool) → is_among (actor.number ∷ []) actor.number ≡ true → (b || is_among (actor.number ∷ []) actor.number) ≡ true
+    either true e = refl
+    either false e = e
+
+  by_number : (record_in actors n ≡ Some a → a.parent ≡ Some p → is_among (below actors (add_below found actor)) p ≡ true → is_among (below actors (add_below found actor)) n ≡ true)
+      → (b : Bool) → nat_eq actor.number n ≡ b → cond b (Some actor) (record_in actors n) ≡ Some a → is_among (below actors (add_below found actor)) n ≡ true
+  by_number rest false number seen = rest seen parent is
+  by_number rest true number seen =
+      let same : actor ≡ a = cc in
+      let here : actor.number ≡ n = eqb-true actor.number n number in
+      let less : p < actor.number = smaller.0 p (ap (λ (z : ActorRecord). z.parent) same ∙ parent) in
+      elim (below_cases actors (add_below found actor) p rising.1 is) [
+        | inl before ↦ first same here before
+        | inr (c, q, there, _, _) ↦ absurd (
+          let later : actor.number < c.number = each_look number_of (λ (z : ActorRecord). actor.number < z.number) actors rising.0 p c there in
+          let at_p : c.number ≡ p = look_number number_of actors p c there in
+          omega arith)
+      ]
+
+-- all that stand below have numbers from the least one on
+pub below_from : (actors : List ActorRecord) (found : List ℕ) (least : ℕ) → AllByRecursion ParentIsSmaller actors → ((n : ℕ) → is_among found n ≡ true → least ≤ n) → (n : ℕ) → is_among (below actors found) n ≡ true → least ≤ n
+below_from [] found least smaller from n is = from n is
+below_from (actor ∷ actors) found least smaller from n is =
+    below_from actors (add_below found actor) least smaller.1 (λ m is. elim (among_added found actor m is) [
+      | inl before ↦ from m before
+      | inr here ↦ (
+        let up = has_parent found actor here.1 in
+        let less : up.0 < actor.number = smaller.0 up.0 up.1 in
+        let low : least ≤ up.0 = from up.0 up.2 in
+        let same : actor.number ≡ m = here.0 in
+        omega arith)
+    ]) n is
+
+-- ---- trees of actors
+
+-- a parent has a record and a smaller number, lists the child once, and is active if the child is
+pub record Child (actors : List ActorRecord) (actor : ActorRecord) (p : ℕ) : Type 0 where
+  pub above : ActorRecord
+  pub seen : record_in actors p ≡ Some above
+  pub smaller : p < actor.number
+  pub listed : count_by (is_kid actor.number) above.kids ≡ 1
+  pub active : is_active actor ≡ true → is_active above ≡ true
+
+-- the records are by number, and parents and children fit each other
+pub record Tree (next : ℕ) (actors : List ActorRecord) : Type 0 where
+  pub rise : Rises number_of actors
+  pub given : AllByRecursion (λ (actor : ActorRecord). IsGiven next actor.number) actors
+  pub parents : (n : ℕ) (a : ActorRecord) (p : ℕ) → record_in actors n ≡ Some a → a.parent ≡ Some p → Child actors a p
+  pub kids : (n : ℕ) (a : ActorRecord) → record_in actors n ≡ Some a → AllByRecursion (λ (kid : List ℕ × ℕ). parent_in actors kid.1 ≡ Some n) a.kids
+  pub levels : (n : ℕ) (a : ActorRecord) → record_in actors n ≡ Some a → within actors 16 n ≡ true
+
+module _ (next : ℕ) (actors : List ActorRecord) (tree : Tree next actors) where
+  pub parents_smaller : AllByRecursion ParentIsSmaller actors
+  parents_smaller = look_each number_of ParentIsSmaller actors tree.rise (λ n a seen p is. (tree.parents n a p seen is).smaller)
+
+  pub given_in : (n : ℕ) (a : ActorRecord) → record_in actors n ≡ Some a → IsGiven next n
+  given_in n a seen = subst (IsGiven next) (look_number number_of actors n a seen) (each_look number_of (λ (z : ActorRecord). IsGiven next z.number) actors tree.given n a seen)
+
+  -- who has a parent there is one of the tree, and its parent is too
+  pub parent_smaller : (n p : ℕ) → parent_in actors n ≡ Some p → p < n
+  parent_smaller n p is =
+      let up = chained (λ (a : ActorRecord). a.parent) (record_in actors n) p is in
+      let same : up.0.number ≡ n = look_number number_of actors n up.0 up.1 in
+      let less : p < up.0.number = (tree.parents n up.0 p up.1 up.2).smaller in
+      omega arith
+
+  pub none_from_next : (n : ℕ) → next ≤ n → record_in actors n ≡ None
+  none_from_next n large = look_none number_of actors n (each_mono (λ (z : ActorRecord). IsGiven next z.number) (λ (z : ActorRecord). z.number ≢ n) actors (λ z given e. omega (arith, given.1)) tree.given)
+
+  -- a change of records that keeps numbers, parents and children, and under which no child outlives its parent
+  module _ (f : ActorRecord → ActorRecord) (same_number : (a : ActorRecord) → (f a).number ≡ a.number) (same_parent : (a : ActorRecord) → (f a).parent ≡ a.parent) (same_kids : (a : ActorRecord) → (f a).kids ≡ a.kids)
+      (outlives : (n : ℕ) (a : ActorRecord) (p : ℕ) (b : ActorRecord) → record_in actors n ≡ Some a → a.parent ≡ Some p → record_in actors p ≡ Some b → is_active (f a) ≡ true → is_active (f b) ≡ true) where
+    pub parent_map : (n : ℕ) → parent_in (map f actors) n ≡ parent_in actors n
+    parent_map n = ap (option_and_then (λ (a : ActorRecord). a.parent)) (look_map number_of f same_number actors n) ∙ by_record (record_in actors n) where
+      by_record : (o : Option ActorRecord) → option_and_then (λ (a : ActorRecord). a.parent) (option_map f o) ≡ option_and_then (λ (a : ActorRecord). a.parent) o
+      by_record None = refl
+      by_record (Some a) = same_parent a
+
+    seen_map : (n : ℕ) (b : ActorRecord) → record_in (map f actors) n ≡ Some b → (a : ActorRecord) × (record_in actors n ≡ Some a) × (f a ≡ b)
+    seen_map n b seen = mapped f (record_in actors n) b (sym (look_map number_of f same_number actors n) ∙ seen)
+
+    pub tree_map : Tree next (map f actors)
+    tree_map = record {
+      rise = pairs_map (λ (x y : ActorRecord). x.number < y.number) (λ (x y : ActorRecord). x.number < y.number) f actors (λ x y less. omega (arith, same_number x, same_number y)) tree.rise;
+      given = each_map (λ (z : ActorRecord). IsGiven next z.number) f actors (each_mono (λ (z : ActorRecord). IsGiven next z.number) (λ (z : ActorRecord). IsGiven next (f z).number) actors (λ z given. (omega (arith, given.0, same_number z), omega (arith, given.1, same_number z))) tree.given);
+      parents = λ n b p seen parent. (
+        let before = seen_map n b seen in
+        subst (λ (z : ActorRecord). Child (map f actors) z p) before.2 (above n before.0 p before.1 (sym (same_parent before.0) ∙ ap (λ (z : ActorRecord). z.parent) before.2 ∙ parent)));
+      kids = λ n b seen. (
+        let before = seen_map n b seen in
+        let fits : AllByRecursion (λ (kid : List ℕ × ℕ). parent_in (map f actors) kid.1 ≡ Some n) before.0.kids =
+            each_mono (λ (kid : List ℕ × ℕ). parent_in actors kid.1 ≡ Some n) (λ (kid : List ℕ × ℕ). parent_in (map f actors) kid.1 ≡ Some n) before.0.kids (λ kid is. parent_map kid.1 ∙ is) (tree.kids n before.0 before.1) in
+        subst (AllByRecursion (λ (kid : List ℕ × ℕ). parent_in (map f actors) kid.1 ≡ Some n)) (sym (same_kids before.0) ∙ ap (λ (z : ActorRecord). z.kids) before.2) fits);
+      levels = λ n b seen. (
+        let before = seen_map n b seen in
+        within_same (λ m. ⊤) actors (map f actors) (λ m p is e. tt) (λ m is. parent_map m) 16 n tt ∙ tree.levels n before.0 before.1);
+    } where
+      above : (n : ℕ) (a : ActorRecord) (p : ℕ) → record_in actors n ≡ Some a → a.parent ≡ Some p → Child (map f actors) (f a) p
+      above n a p seen parent =
+          let child = tree.parents n a p seen parent in
+          record {
+            above = f child.above;
+            seen = look_map number_of f same_number actors p ∙ ap (option_map f) child.seen;
+            smaller = omega (arith, child.smaller, same_number a);
+            listed = ap (λ (m : ℕ). count_by (is_kid m) (f child.above).kids) (same_number a) ∙ ap (count_by (is_kid a.number)) (same_kids child.above) ∙ child.listed;
+            active = outlives n a p child.above seen parent child.seen;
+          }
