@@ -241,3 +241,33 @@ module _ {X : Type 0} (number : X → ℕ) where
     by_number : (b : Bool) → nat_eq (number x) n ≡ b → Q (if b then change x else x)
     by_number true is = changed x (ap (λ (b : Bool). cond b (Some x) (look xs n)) is) all.0
     by_number false is = others x (λ e. eqb-false (number x) n is e) all.0
+
+  -- what a change keeps of the item with the number it keeps of each
+  pub at_same : {Y : Type 0} (g : X → Y) (n : ℕ) (change : X → X) → ((x : X) → g (change x) ≡ g x) → (x : X) → g (at n change x) ≡ g x
+  at_same g n change same x = by_test (nat_eq (number x) n) where
+    by_test : (b : Bool) → g (if b then change x else x) ≡ g x
+    by_test true = same x
+    by_test false = refl
+
+-- ---- counts
+
+-- those that a test leaves out aren't counted
+pub count_passing : {X : Type 0} (counted test : X → Bool) (xs : List X) → AllByRecursion (λ x. test x ≡ false → counted x ≡ false) xs → count_by counted (filter test xs) ≡ count_by counted xs
+count_passing counted test [] all = refl
+count_passing {X} counted test (x ∷ xs) all = by_test (count_passing counted test xs all.1) (test x) refl where
+  by_test : count_by counted (filter test xs) ≡ count_by counted xs → (b : Bool) → test x ≡ b → count_by counted (cond b (x ∷ filter test xs) (filter test xs)) ≡ count_by counted (x ∷ xs)
+  by_test rest true is = omega (arith, sum_by-cons (λ (y : X). cond (counted y) 1 0) x xs, sum_by-cons (λ (y : X). cond (counted y) 1 0) x (filter test xs))
+  by_test rest false is = omega (arith, sum_by-cons (λ (y : X). cond (counted y) 1 0) x xs, ap {B = ℕ} (λ (b : Bool). cond b 1 0) (all.0 is))
+
+pub count_none : {X : Type 0} (counted : X → Bool) (xs : List X) → AllByRecursion (λ x. counted x ≡ false) xs → count_by counted xs ≡ 0
+count_none counted [] all = refl
+count_none {X} counted (x ∷ xs) all = omega (arith, sum_by-cons (λ (y : X). cond (counted y) 1 0) x xs, ap {B = ℕ} (λ (b : Bool). cond b 1 0) all.0, count_none counted xs all.1)
+
+pub none_counted : {X : Type 0} (counted : X → Bool) (xs : List X) → count_by counted xs ≡ 0 → AllByRecursion (λ x. counted x ≡ false) xs
+none_counted counted [] none = tt
+none_counted {X} counted (x ∷ xs) none =
+    let whole : count_by counted (x ∷ xs) ≡ cond (counted x) 1 0 + count_by counted xs = sum_by-cons (λ (y : X). cond (counted y) 1 0) x xs in
+    (by_test (counted x) refl whole, none_counted counted xs (omega arith)) where
+  by_test : (b : Bool) → counted x ≡ b → count_by counted (x ∷ xs) ≡ cond b 1 0 + count_by counted xs → counted x ≡ false
+  by_test true is whole = absurd (omega arith)
+  by_test false is whole = is

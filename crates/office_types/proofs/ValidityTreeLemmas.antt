@@ -14,7 +14,7 @@ use Rattle.office_types.specs.Effects.{is_within_levels, with_kid, without_kid}
 use Rattle.office_types.specs.Ends.{has_parent_among, is_among, subtree_of}
 use Rattle.office_types.specs.Records.{is_active}
 use Rattle.office_types.specs.ValidOffice.{IsGiven, is_kid}
-use Rattle.office_types.proofs.ValidityListLemmas.{Rises, at, at_number, each_at, each_look, each_map, each_mono, each_passing, each_push, look, look_each, look_filter, look_map, look_none, look_number, look_push, pairs_filter, pairs_map, pairs_push, rises_at}
+use Rattle.office_types.proofs.ValidityListLemmas.{Rises, at, at_number, at_same, count_none, count_passing, none_counted, each_at, each_filter, each_look, each_map, each_mono, each_passing, each_push, look, look_each, look_filter, look_map, look_none, look_number, look_push, pairs_filter, pairs_map, pairs_push, rises_at}
 
 -- ---- records by their numbers
 
@@ -270,3 +270,178 @@ module _ (next : ℕ) (actors : List ActorRecord) (tree : Tree next actors) wher
             listed = ap (λ (m : ℕ). count_by (is_kid m) (f child.above).kids) (same_number a) ∙ ap (count_by (is_kid a.number)) (same_kids child.above) ∙ child.listed;
             active = outlives n a p child.above seen parent child.seen;
           }
+
+-- ---- one actor more
+
+module _ (next : ℕ) (actors : List ActorRecord) (tree : Tree next actors) (numbered : 0 < next) (f : ActorRecord → ActorRecord) (fresh : ActorRecord) (others : List ActorRecord)
+    (same_number : (a : ActorRecord) → (f a).number ≡ a.number) (same_parent : (a : ActorRecord) → (f a).parent ≡ a.parent) (same_active : (a : ActorRecord) → is_active (f a) ≡ is_active a)
+    (fresh_number : fresh.number ≡ next) (fresh_kids : fresh.kids ≡ []) (same_fresh : f fresh ≡ fresh)
+    (looks : (m : ℕ) → record_in others m ≡ option_map f (option_or (record_in actors m) (record_in (fresh ∷ []) m)))
+    (listed : (m : ℕ) (a : ActorRecord) (c : ℕ) → record_in actors m ≡ Some a → c < next → count_by (is_kid c) (f a).kids ≡ count_by (is_kid c) a.kids)
+    (more : (P : List ℕ × ℕ → Type 0) (m : ℕ) (a : ActorRecord) → record_in actors m ≡ Some a → AllByRecursion P a.kids → (fresh.parent ≡ Some m → (id : List ℕ) → P (id, next)) → AllByRecursion P (f a).kids) where
+  pub grown_seen : (m : ℕ) (a : ActorRecord) → record_in actors m ≡ Some a → record_in others m ≡ Some (f a)
+  grown_seen m a seen = looks m ∙ ap (λ (o : Option ActorRecord). option_map f (option_or o (record_in (fresh ∷ []) m))) seen
+
+  fresh_seen : record_in (fresh ∷ []) next ≡ Some fresh
+  fresh_seen = ap (λ (b : Bool). cond b (Some fresh) None) (eq-eqb fresh.number next fresh_number)
+
+  pub grown_new : record_in others next ≡ Some fresh
+  grown_new =
+      looks next ∙ ap (λ (o : Option ActorRecord). option_map f (option_or o (record_in (fresh ∷ []) next))) (none_from_next next actors tree next (omega arith))
+      ∙ ap (option_map f) fresh_seen ∙ ap (λ (a : ActorRecord). Some a) same_fresh
+
+  pub grown_cases : (m : ℕ) (b : ActorRecord) → record_in others m ≡ Some b → ((a : ActorRecord) × (record_in actors m ≡ Some a) × (f a ≡ b)) ⊎ ((m ≡ next) × (fresh ≡ b))
+  grown_cases m b seen = by_old (record_in actors m) refl (sym (looks m) ∙ seen) where
+    by_new : (t : Bool) → nat_eq fresh.number m ≡ t → option_map f (cond t (Some fresh) None) ≡ Some b → ((a : ActorRecord) × (record_in actors m ≡ Some a) × (f a ≡ b)) ⊎ ((m ≡ next) × (fresh ≡ b))
+    by_new true is seen = let same : f fresh ≡ b = cc in inr (sym (eqb-true fresh.number m is) ∙ fresh_number, sym same_fresh ∙ same)
+    by_new false is seen = absurd (cc)
+
+    by_old : (o : Option ActorRecord) → record_in actors m ≡ o → option_map f (option_or o (record_in (fresh ∷ []) m)) ≡ Some b → ((a : ActorRecord) × (record_in actors m ≡ Some a) × (f a ≡ b)) ⊎ ((m ≡ next) × (fresh ≡ b))
+    by_old (Some a) is seen = inl (a, is, cc)
+    by_old None is seen = by_new (nat_eq fresh.number m) refl seen
+
+  pub grown_parent : (m : ℕ) → m < next → parent_in others m ≡ parent_in actors m
+  grown_parent m small = ap (option_and_then (λ (a : ActorRecord). a.parent)) (looks m) ∙ by_old (record_in actors m) where
+    by_old : (o : Option ActorRecord) → option_and_then (λ (a : ActorRecord). a.parent) (option_map f (option_or o (record_in (fresh ∷ []) m))) ≡ option_and_then (λ (a : ActorRecord). a.parent) o
+    by_old (Some a) = same_parent a
+    by_old None = ap (λ (t : Bool). option_and_then (λ (a : ActorRecord). a.parent) (option_map f (cond t (Some fresh) None))) (ne_eqb fresh.number m (λ e. omega arith))
+
+  pub grown_within : (levels m : ℕ) → m < next → within others levels m ≡ within actors levels m
+  grown_within levels m small =
+      within_same (λ (k : ℕ). k < next) actors others (λ k p small is. (let less : p < k = parent_smaller next actors tree k p is in omega arith)) grown_parent levels m small
+
+  pub tree_grow : Rises number_of others → ((p : ℕ) → fresh.parent ≡ Some p → Child others fresh p) → within others 16 next ≡ true → Tree (next + 1) others
+  tree_grow rising fresh_child level = record {
+    rise = rising;
+    given = look_each number_of (λ (z : ActorRecord). IsGiven (next + 1) z.number) others rising (λ m b seen. elim (grown_cases m b seen) [
+      | inl (a, before, same) ↦ (
+        let given : IsGiven next m = given_in next actors tree m a before in
+        let at_m : b.number ≡ m = look_number number_of others m b seen in
+        (omega (arith, given.0), omega (arith, given.1)))
+      | inr (at_next, same) ↦ (let at_m : b.number ≡ m = look_number number_of others m b seen in (omega arith, omega arith))
+    ]);
+    parents = λ m b p seen parent. elim (grown_cases m b seen) [
+      | inl (a, before, same) ↦ subst (λ (z : ActorRecord). Child others z p) same (above m a p before (sym (same_parent a) ∙ ap (λ (z : ActorRecord). z.parent) same ∙ parent))
+      | inr (at_next, same) ↦ subst (λ (z : ActorRecord). Child others z p) same (fresh_child p (ap (λ (z : ActorRecord). z.parent) same ∙ parent))
+    ];
+    kids = λ m b seen. elim (grown_cases m b seen) [
+      | inl (a, before, same) ↦ subst (λ (z : ActorRecord). AllByRecursion (λ (kid : List ℕ × ℕ). parent_in others kid.1 ≡ Some m) z.kids) same (below_it m a before)
+      | inr (at_next, same) ↦ subst (AllByRecursion (λ (kid : List ℕ × ℕ). parent_in others kid.1 ≡ Some m)) (sym fresh_kids ∙ ap (λ (z : ActorRecord). z.kids) same) tt
+    ];
+    levels = λ m b seen. elim (grown_cases m b seen) [
+      | inl (a, before, same) ↦ (let given : IsGiven next m = given_in next actors tree m a before in grown_within 16 m given.1 ∙ tree.levels m a before)
+      | inr (at_next, same) ↦ ap (within others 16) at_next ∙ level
+    ];
+  } where
+    above : (m : ℕ) (a : ActorRecord) (p : ℕ) → record_in actors m ≡ Some a → a.parent ≡ Some p → Child others (f a) p
+    above m a p seen parent =
+        let child = tree.parents m a p seen parent in
+        let given : IsGiven next m = given_in next actors tree m a seen in
+        let at_m : a.number ≡ m = look_number number_of actors m a seen in
+        record {
+          above = f child.above;
+          seen = grown_seen p child.above child.seen;
+          smaller = omega (arith, child.smaller, same_number a);
+          listed = ap (λ (c : ℕ). count_by (is_kid c) (f child.above).kids) (same_number a) ∙ listed p child.above a.number child.seen (omega (arith, given.1)) ∙ child.listed;
+          active = λ is. same_active child.above ∙ child.active (sym (same_active a) ∙ is);
+        }
+
+    below_it : (m : ℕ) (a : ActorRecord) → record_in actors m ≡ Some a → AllByRecursion (λ (kid : List ℕ × ℕ). parent_in others kid.1 ≡ Some m) (f a).kids
+    below_it m a seen =
+        more (λ (kid : List ℕ × ℕ). parent_in others kid.1 ≡ Some m) m a seen
+        (each_mono (λ (kid : List ℕ × ℕ). parent_in actors kid.1 ≡ Some m) (λ (kid : List ℕ × ℕ). parent_in others kid.1 ≡ Some m) a.kids
+        (λ kid is. (
+          let up = chained (λ (z : ActorRecord). z.parent) (record_in actors kid.1) m is in
+          let given : IsGiven next kid.1 = given_in next actors tree kid.1 up.0 up.1 in
+          grown_parent kid.1 given.1 ∙ is)) (tree.kids m a seen))
+        (λ parent id. ap (option_and_then (λ (z : ActorRecord). z.parent)) grown_new ∙ parent)
+
+mapped_itself : {X : Type 0} (o : Option X) → o ≡ option_map (λ (x : X). x) o
+mapped_itself None = refl
+mapped_itself (Some x) = refl
+
+-- an actor without a parent
+pub tree_start : (next : ℕ) (actors : List ActorRecord) → Tree next actors → 0 < next → (fresh : ActorRecord) → fresh.number ≡ next → fresh.kids ≡ [] → fresh.parent ≡ None → Tree (next + 1) (actors ++ fresh ∷ [])
+tree_start next actors tree numbered fresh fresh_number fresh_kids no_parent =
+    let looks : (m : ℕ) → record_in (actors ++ fresh ∷ []) m ≡ option_map (λ (a : ActorRecord). a) (option_or (record_in actors m) (record_in (fresh ∷ []) m)) =
+        λ m. look_push number_of actors fresh m ∙ mapped_itself (option_or (record_in actors m) (record_in (fresh ∷ []) m)) in
+    let new : record_in (actors ++ fresh ∷ []) next ≡ Some fresh =
+        grown_new next actors tree numbered (λ a. a) fresh (actors ++ fresh ∷ []) (λ a. refl) (λ a. refl) (λ a. refl) fresh_number fresh_kids refl looks (λ m a c seen small. refl) (λ P m a seen all here. all) in
+    tree_grow next actors tree numbered (λ a. a) fresh (actors ++ fresh ∷ []) (λ a. refl) (λ a. refl) (λ a. refl) fresh_number fresh_kids refl looks (λ m a c seen small. refl) (λ P m a seen all here. all)
+    (pairs_push (λ (x y : ActorRecord). x.number < y.number) actors fresh tree.rise (each_mono (λ (z : ActorRecord). IsGiven next z.number) (λ (z : ActorRecord). z.number < fresh.number) actors (λ z given. omega (arith, given.1)) tree.given))
+    (λ p parent. absurd (cc))
+    (ap (λ (o : Option ℕ). option_map_or (within (actors ++ fresh ∷ []) 15) o true) (ap (option_and_then (λ (z : ActorRecord). z.parent)) new ∙ no_parent))
+
+-- a child of an active actor
+module _ (next : ℕ) (actors : List ActorRecord) (tree : Tree next actors) (numbered : 0 < next) (n : ℕ) (parent : ActorRecord) (id : List ℕ) (fresh : ActorRecord)
+    (seen : record_in actors n ≡ Some parent) (running : is_active parent ≡ true) (fresh_number : fresh.number ≡ next) (fresh_kids : fresh.kids ≡ []) (fresh_parent : fresh.parent ≡ Some n) where
+  abbrev adopt : ActorRecord → ActorRecord
+  adopt = at number_of n (with_kid id next)
+
+  abbrev pub with_child_in : List ActorRecord
+  with_child_in = map adopt (actors ++ fresh ∷ [])
+
+  small : n < next
+  small = (given_in next actors tree n parent seen).1
+
+  same_number : (a : ActorRecord) → (adopt a).number ≡ a.number
+  same_number a = at_number number_of n (with_kid id next) (λ x. refl) a
+
+  same_parent : (a : ActorRecord) → (adopt a).parent ≡ a.parent
+  same_parent a = at_same number_of (λ (z : ActorRecord). z.parent) n (with_kid id next) (λ x. refl) a
+
+  same_active : (a : ActorRecord) → is_active (adopt a) ≡ is_active a
+  same_active a = at_same number_of is_active n (with_kid id next) (λ x. refl) a
+
+  same_fresh : adopt fresh ≡ fresh
+  same_fresh = ap (λ (b : Bool). if b then with_kid id next fresh else fresh) (ne_eqb fresh.number n (λ e. omega (arith, small)))
+
+  looks : (m : ℕ) → record_in with_child_in m ≡ option_map adopt (option_or (record_in actors m) (record_in (fresh ∷ []) m))
+  looks m = look_map number_of adopt same_number (actors ++ fresh ∷ []) m ∙ ap (option_map adopt) (look_push number_of actors fresh m)
+
+  listed : (m : ℕ) (a : ActorRecord) (c : ℕ) → record_in actors m ≡ Some a → c < next → count_by (is_kid c) (adopt a).kids ≡ count_by (is_kid c) a.kids
+  listed m a c there below_next = by_test (nat_eq a.number n) where
+    by_test : (b : Bool) → count_by (is_kid c) (if b then with_kid id next a else a).kids ≡ count_by (is_kid c) a.kids
+    by_test true =
+        omega (arith, sum_by-append (λ (kid : List ℕ × ℕ). cond (is_kid c kid) 1 0) a.kids ((id, next) ∷ []), count_none (is_kid c) ((id, next) ∷ []) (ne_eqb next c (λ e. omega arith), tt))
+    by_test false = refl
+
+  more : (P : List ℕ × ℕ → Type 0) (m : ℕ) (a : ActorRecord) → record_in actors m ≡ Some a → AllByRecursion P a.kids → (fresh.parent ≡ Some m → (other : List ℕ) → P (other, next)) → AllByRecursion P (adopt a).kids
+  more P m a there all here = by_test (nat_eq a.number n) refl where
+    by_test : (b : Bool) → nat_eq a.number n ≡ b → AllByRecursion P (if b then with_kid id next a else a).kids
+    by_test true is = each_push P a.kids (id, next) all (here (fresh_parent ∙ ap (λ (k : ℕ). Some k) (sym (eqb-true a.number n is) ∙ look_number number_of actors m a there)) id)
+    by_test false is = all
+
+  pub spawned_seen : (m : ℕ) (a : ActorRecord) → record_in actors m ≡ Some a → record_in with_child_in m ≡ Some (adopt a)
+  spawned_seen = grown_seen next actors tree numbered adopt fresh with_child_in same_number same_parent same_active fresh_number fresh_kids same_fresh looks listed more
+
+  pub spawned_new : record_in with_child_in next ≡ Some fresh
+  spawned_new = grown_new next actors tree numbered adopt fresh with_child_in same_number same_parent same_active fresh_number fresh_kids same_fresh looks listed more
+
+  new_child : (p : ℕ) → fresh.parent ≡ Some p → Child with_child_in fresh p
+  new_child p is =
+      let at_n : n ≡ p = cc in
+      let at_parent : parent.number ≡ n = look_number number_of actors n parent seen in
+      let kids : (adopt parent).kids ≡ parent.kids ++ (id, next) ∷ [] = ap (λ (b : Bool). (if b then with_kid id next parent else parent).kids) (eq-eqb parent.number n at_parent) in
+      let before : count_by (is_kid next) parent.kids ≡ 0 = count_none (is_kid next) parent.kids (each_mono (λ (kid : List ℕ × ℕ). parent_in actors kid.1 ≡ Some n) (λ (kid : List ℕ × ℕ). is_kid next kid ≡ false) parent.kids
+          (λ kid is. (
+            let up = chained (λ (z : ActorRecord). z.parent) (record_in actors kid.1) n is in
+            let given : IsGiven next kid.1 = given_in next actors tree kid.1 up.0 up.1 in
+            ne_eqb kid.1 next (λ e. omega (arith, given.1)))) (tree.kids n parent seen)) in
+      let one : count_by (is_kid next) ((id, next) ∷ []) ≡ 1 = ap (λ (b : Bool). 0 + cond b 1 0) (eq-eqb next next refl) in
+      record {
+        above = adopt parent;
+        seen = ap (record_in with_child_in) (sym at_n) ∙ spawned_seen n parent seen;
+        smaller = omega (arith, small);
+        listed = ap (λ (c : ℕ). count_by (is_kid c) (adopt parent).kids) fresh_number ∙ ap (count_by (is_kid next)) kids ∙ (omega (arith, sum_by-append (λ (kid : List ℕ × ℕ). cond (is_kid next kid) 1 0) parent.kids ((id, next) ∷ [])));
+        active = λ is. same_active parent ∙ running;
+      }
+
+  pub tree_spawn : within actors 15 n ≡ true → Tree (next + 1) with_child_in
+  tree_spawn level =
+      tree_grow next actors tree numbered adopt fresh with_child_in same_number same_parent same_active fresh_number fresh_kids same_fresh looks listed more
+      (rises_at number_of n (with_kid id next) (actors ++ fresh ∷ []) (λ x. refl)
+      (pairs_push (λ (x y : ActorRecord). x.number < y.number) actors fresh tree.rise (each_mono (λ (z : ActorRecord). IsGiven next z.number) (λ (z : ActorRecord). z.number < fresh.number) actors (λ z given. omega (arith, given.1)) tree.given)))
+      new_child
+      (ap (λ (o : Option ℕ). option_map_or (within with_child_in 15) o true) (ap (option_and_then (λ (z : ActorRecord). z.parent)) spawned_new ∙ fresh_parent)
+      ∙ grown_within next actors tree numbered adopt fresh with_child_in same_number same_parent same_active fresh_number fresh_kids same_fresh looks listed more 15 n small ∙ level)
