@@ -11,3 +11,4 @@ mod ChangeLemmas
 mod LetterLemmas
 mod ValidityListLemmas
 mod ValidityTreeLemmas
+mod ValidityStopLemmas

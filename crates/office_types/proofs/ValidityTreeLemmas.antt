@@ -94,7 +94,7 @@ among_one c n is = by_test (nat_eq n c) refl is where
   by_test true e is = eqb-true n c e
   by_test false e is = absurd (true≢false (sym is))
 
-among_itself : (c : ℕ) → is_among (c ∷ []) c ≡ true
+pub among_itself : (c : ℕ) → is_among (c ∷ []) c ≡ true
 among_itself c = ap (λ (b : Bool). b || false) (eq-eqb c c refl)
 
 -- what is among those found after one more was looked at

@@ -1,4 +1,4 @@
-use Rattle.office_types.proofs.ValidityTreeLemmas.{tree_spawn}
+use Rattle.office_types.proofs.ValidityStopLemmas.{parent_stays}
 use Rattle.office_types.proofs.laws.decisions_keep_validity.Goals as goal
 
 pub returns : goal.returns
