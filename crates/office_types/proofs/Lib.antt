@@ -12,3 +12,4 @@ mod LetterLemmas
 mod ValidityListLemmas
 mod ValidityTreeLemmas
 mod ValidityStopLemmas
+mod ValidityPartLemmas

@@ -271,3 +271,77 @@ none_counted {X} counted (x ∷ xs) none =
   by_test : (b : Bool) → counted x ≡ b → count_by counted (x ∷ xs) ≡ cond b 1 0 + count_by counted xs → counted x ≡ false
   by_test true is whole = absurd (omega arith)
   by_test false is whole = is
+
+pub sum_zero : {X : Type 0} (f : X → ℕ) (xs : List X) → AllByRecursion (λ x. f x ≡ 0) xs → sum_by f xs ≡ 0
+sum_zero f [] all = refl
+sum_zero f (x ∷ xs) all = omega (arith, sum_by-cons f x xs, all.0, sum_zero f xs all.1)
+
+-- how many pass a test after each was changed, where none passes that didn't before
+pub passing_map_le : {X : Type 0} (test : X → Bool) (f : X → X) (xs : List X) → ((x : X) → test (f x) ≡ true → test x ≡ true) → length (filter test (map f xs)) ≤ length (filter test xs)
+passing_map_le test f [] before = omega arith
+passing_map_le test f (x ∷ xs) before = by_tests (passing_map_le test f xs before) (test (f x)) refl (test x) refl where
+  by_tests : length (filter test (map f xs)) ≤ length (filter test xs) → (b : Bool) → test (f x) ≡ b → (c : Bool) → test x ≡ c
+      → length (cond b (f x ∷ filter test (map f xs)) (filter test (map f xs))) ≤ length (cond c (x ∷ filter test xs) (filter test xs))
+  by_tests rest true is true was = omega arith
+  by_tests rest true is false was = absurd (true≢false (sym (before x is) ∙ was))
+  by_tests rest false is true was = omega arith
+  by_tests rest false is false was = rest
+
+pub passing_filter_le : {X : Type 0} (test keep : X → Bool) (xs : List X) → length (filter test (filter keep xs)) ≤ length (filter test xs)
+passing_filter_le test keep [] = omega arith
+passing_filter_le test keep (x ∷ xs) = by_test (passing_filter_le test keep xs) (keep x) where
+  by_both : length (filter test (filter keep xs)) ≤ length (filter test xs) → (c : Bool) → length (cond c (x ∷ filter test (filter keep xs)) (filter test (filter keep xs))) ≤ length (cond c (x ∷ filter test xs) (filter test xs))
+  by_both rest true = omega arith
+  by_both rest false = rest
+
+  by_left : length (filter test (filter keep xs)) ≤ length (filter test xs) → (c : Bool) → length (filter test (filter keep xs)) ≤ length (cond c (x ∷ filter test xs) (filter test xs))
+  by_left rest true = omega arith
+  by_left rest false = rest
+
+  by_test : length (filter test (filter keep xs)) ≤ length (filter test xs) → (b : Bool) → length (filter test (cond b (x ∷ filter keep xs) (filter keep xs))) ≤ length (filter test (x ∷ xs))
+  by_test rest true = by_both rest (test x)
+  by_test rest false = by_left rest (test x)
+
+pub passing_push_le : {X : Type 0} (test : X → Bool) (xs : List X) (y : X) → length (filter test (xs ++ y ∷ [])) ≤ length (filter test xs) + 1
+passing_push_le test [] y = by_test (test y) where
+  by_test : (b : Bool) → length (cond b (y ∷ []) []) ≤ 0 + 1
+  by_test true = omega arith
+  by_test false = omega arith
+passing_push_le test (x ∷ xs) y = by_test (passing_push_le test xs y) (test x) where
+  by_test : length (filter test (xs ++ y ∷ [])) ≤ length (filter test xs) + 1 → (b : Bool) → length (cond b (x ∷ filter test (xs ++ y ∷ [])) (filter test (xs ++ y ∷ []))) ≤ length (cond b (x ∷ filter test xs) (filter test xs)) + 1
+  by_test rest true = omega arith
+  by_test rest false = rest
+
+-- one test after another is both
+pub filter_filter : {X : Type 0} (p q : X → Bool) (xs : List X) → filter p (filter q xs) ≡ filter (λ x. q x && p x) xs
+filter_filter p q [] = refl
+filter_filter p q (x ∷ xs) = by_tests (filter_filter p q xs) (q x) where
+  by_tests : filter p (filter q xs) ≡ filter (λ y. q y && p y) xs → (b : Bool) → filter p (cond b (x ∷ filter q xs) (filter q xs)) ≡ cond (b && p x) (x ∷ filter (λ y. q y && p y) xs) (filter (λ y. q y && p y) xs)
+  by_tests rest true = ap (λ others. cond (p x) (x ∷ others) others) rest
+  by_tests rest false = rest
+
+pub filter_same : {X : Type 0} (p q : X → Bool) (xs : List X) → ((x : X) → p x ≡ q x) → filter p xs ≡ filter q xs
+filter_same p q [] same = refl
+filter_same p q (x ∷ xs) same = ap (λ (b : Bool). cond b (x ∷ filter p xs) (filter p xs)) (same x) ∙ ap (λ others. cond (q x) (x ∷ others) others) (filter_same p q xs same)
+
+pub filter_all : {X : Type 0} (p : X → Bool) (xs : List X) → AllByRecursion (λ x. p x ≡ true) xs → filter p xs ≡ xs
+filter_all p [] all = refl
+filter_all p (x ∷ xs) all = ap (λ (b : Bool). cond b (x ∷ filter p xs) (filter p xs)) all.0 ∙ ap (λ others. x ∷ others) (filter_all p xs all.1)
+
+pub filter_none : {X : Type 0} (p : X → Bool) (xs : List X) → AllByRecursion (λ x. p x ≡ false) xs → filter p xs ≡ []
+filter_none p [] all = refl
+filter_none p (x ∷ xs) all = ap (λ (b : Bool). cond b (x ∷ filter p xs) (filter p xs)) all.0 ∙ filter_none p xs all.1
+
+pub filter_joined : {X : Type 0} (p : X → Bool) (xs ys : List X) → filter p (xs ++ ys) ≡ filter p xs ++ filter p ys
+filter_joined p [] ys = refl
+filter_joined p (x ∷ xs) ys = by_test (filter_joined p xs ys) (p x) where
+  by_test : filter p (xs ++ ys) ≡ filter p xs ++ filter p ys → (b : Bool) → cond b (x ∷ filter p (xs ++ ys)) (filter p (xs ++ ys)) ≡ cond b (x ∷ filter p xs) (filter p xs) ++ filter p ys
+  by_test rest true = ap (λ others. x ∷ others) rest
+  by_test rest false = rest
+
+pub length_filter_le : {X : Type 0} (p : X → Bool) (xs : List X) → length (filter p xs) ≤ length xs
+length_filter_le p [] = omega arith
+length_filter_le p (x ∷ xs) = by_test (length_filter_le p xs) (p x) where
+  by_test : length (filter p xs) ≤ length xs → (b : Bool) → length (cond b (x ∷ filter p xs) (filter p xs)) ≤ length (x ∷ xs)
+  by_test rest true = omega arith
+  by_test rest false = omega arith
