@@ -13,3 +13,4 @@ mod ValidityListLemmas
 mod ValidityTreeLemmas
 mod ValidityStopLemmas
 mod ValidityPartLemmas
+mod ValidityEndLemmas

@@ -1,5 +1,5 @@
 use Rattle.office_types.proofs.ValidityStopLemmas.{parent_stays}
-use Rattle.office_types.proofs.ValidityPartLemmas.{parts_map}
+use Rattle.office_types.proofs.ValidityEndLemmas.{parts_push}
 use Rattle.office_types.proofs.laws.decisions_keep_validity.Goals as goal
 
 pub returns : goal.returns
