@@ -14,3 +14,4 @@ mod ValidityTreeLemmas
 mod ValidityStopLemmas
 mod ValidityPartLemmas
 mod ValidityEndLemmas
+mod ValidityLemmas

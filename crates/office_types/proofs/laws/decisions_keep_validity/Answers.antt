@@ -1,4 +1,5 @@
 use Rattle.office_types.proofs.ValidityStopLemmas.{parent_stays}
+use Rattle.office_types.proofs.ValidityLemmas.{valid_from}
 use Rattle.office_types.proofs.ValidityEndLemmas.{parts_push}
 use Rattle.office_types.proofs.laws.decisions_keep_validity.Goals as goal
 
