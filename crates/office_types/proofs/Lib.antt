@@ -15,3 +15,4 @@ mod ValidityStopLemmas
 mod ValidityPartLemmas
 mod ValidityEndLemmas
 mod ValidityLemmas
+mod ValidityChangeLemmas
