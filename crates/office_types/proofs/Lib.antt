@@ -16,3 +16,4 @@ mod ValidityPartLemmas
 mod ValidityEndLemmas
 mod ValidityLemmas
 mod ValidityChangeLemmas
+mod ValidityActorLemmas

@@ -36,7 +36,7 @@ use Rattle.office_types.proofs.ValidityLemmas.{Counts, Sound}
 -- ---- one record changed
 
 -- a change of one record that leaves its place in the tree
-tree_at : (next : ℕ) (actors : List ActorRecord) → Tree next actors → (n : ℕ) (change : ActorRecord → ActorRecord) → ((a : ActorRecord) → (change a).number ≡ a.number) → ((a : ActorRecord) → (change a).parent ≡ a.parent)
+pub tree_at : (next : ℕ) (actors : List ActorRecord) → Tree next actors → (n : ℕ) (change : ActorRecord → ActorRecord) → ((a : ActorRecord) → (change a).number ≡ a.number) → ((a : ActorRecord) → (change a).parent ≡ a.parent)
     → ((a : ActorRecord) → (change a).kids ≡ a.kids) → ((a : ActorRecord) → is_active (change a) ≡ is_active a) → Tree next (map (at number_of n change) actors)
 tree_at next actors tree n change same_number same_parent same_kids same_active =
     tree_map next actors tree (at number_of n change) (at_number number_of n change same_number) (at_same number_of (λ (z : ActorRecord). z.parent) n change same_parent) (at_same number_of (λ (z : ActorRecord). z.kids) n change same_kids)
@@ -46,7 +46,7 @@ tree_at next actors tree n change same_number same_parent same_kids same_active 
       let same : child.above ≡ b = cc in
       at_same number_of is_active n change same_active b ∙ ap is_active (sym same) ∙ child.active (sym (at_same number_of is_active n change same_active a) ∙ active)))
 
-active_at_le : (n : ℕ) (change : ActorRecord → ActorRecord) (actors : List ActorRecord) → ((a : ActorRecord) → is_active (change a) ≡ is_active a)
+pub active_at_le : (n : ℕ) (change : ActorRecord → ActorRecord) (actors : List ActorRecord) → ((a : ActorRecord) → is_active (change a) ≡ is_active a)
     → length (filter is_active (map (at number_of n change) actors)) ≤ length (filter is_active actors)
 active_at_le n change actors same = passing_map_le is_active (at number_of n change) actors (λ a is. sym (at_same number_of is_active n change same a) ∙ is)
 
@@ -122,7 +122,7 @@ shorter_head [] = omega arith
 shorter_head (letter ∷ letters) = omega arith
 
 -- a fact of one record, changed or not
-either_at : (Q : ActorRecord → Type 0) (n : ℕ) (change : ActorRecord → ActorRecord) (a : ActorRecord) → Q (change a) → Q a → Q (at number_of n change a)
+pub either_at : (Q : ActorRecord → Type 0) (n : ℕ) (change : ActorRecord → ActorRecord) (a : ActorRecord) → Q (change a) → Q a → Q (at number_of n change a)
 either_at Q n change a changed same = by_test (nat_eq a.number n) where
   by_test : (b : Bool) → Q (if b then change a else a)
   by_test true = changed
@@ -156,7 +156,7 @@ head_sound K K' callers state n sound others target =
       kinds = each_at number_of K K' n (λ (z : ActorRecord). record z { mailbox = drop 1 z.mailbox }) state.actors sound.tree.rise sound.kinds others target;
     }
 
-stands_quiet : (a b : ActorRecord) → b.status ≡ a.status → b.system ≡ a.system → b.output ≡ a.output → b.error ≡ a.error → b.mailbox ≡ a.mailbox → Stands a → Stands b
+pub stands_quiet : (a b : ActorRecord) → b.status ≡ a.status → b.system ≡ a.system → b.output ≡ a.output → b.error ≡ a.error → b.mailbox ≡ a.mailbox → Stands a → Stands b
 stands_quiet a b same_status same_system same_output same_error same_mailbox stands = record {
   ended = λ is. (let ended = stands.ended (ap is_active_status (sym same_status) ∙ is) in record { letters = same_mailbox ∙ ended.letters; name = same_system ∙ ended.name });
   system = subst (λ (o : Option (List ℕ)). IfSome o (λ name. IsTrue (is_name name))) (sym same_system) stands.system;
@@ -167,7 +167,7 @@ stands_quiet a b same_status same_system same_output same_error same_mailbox sta
 }
 
 -- what is kept besides the tree where one record gets another own part or other children
-parts_quiet : (na la ta : ℕ) (actors : List ActorRecord) (timers : List Timer) (names : List (List ℕ × ℕ)) (n : ℕ) (change : ActorRecord → ActorRecord) → ((a : ActorRecord) → (change a).number ≡ a.number)
+pub parts_quiet : (na la ta : ℕ) (actors : List ActorRecord) (timers : List Timer) (names : List (List ℕ × ℕ)) (n : ℕ) (change : ActorRecord → ActorRecord) → ((a : ActorRecord) → (change a).number ≡ a.number)
     → ((a : ActorRecord) → (change a).status ≡ a.status) → ((a : ActorRecord) → (change a).system ≡ a.system) → ((a : ActorRecord) → (change a).output ≡ a.output) → ((a : ActorRecord) → (change a).error ≡ a.error)
     → ((a : ActorRecord) → (change a).mailbox ≡ a.mailbox) → ((a : ActorRecord) → is_some a.own ≡ true → is_some (change a).own ≡ true)
     → Parts na la ta actors timers names → Parts na la ta (map (at number_of n change) actors) timers names
@@ -208,11 +208,6 @@ own_sound K K' callers state n own sound others target =
 pub record Except (K : ActorRecord → Type 0) (n : ℕ) (M : ActorRecord → Type 0) (actor : ActorRecord) : Type 0 where
   pub other : actor.number ≢ n → K actor
   pub one : actor.number ≡ n → M actor
-
-new_counts : (callers : List Caller) (state : OfficeState) (fresh : ActorRecord) → has_actor_room state ≡ true → Counts callers state → Counts callers (with_record state fresh)
-new_counts callers state fresh room counts =
-    let rooms = and_parts (nat_lt (active_actors state) MAX_ACTIVE_ACTORS) (nat_lt state.next_actor MAX_NEXT_NUMBER) room in
-    ?
 
 -- each of the old ones has another number than the next
 pub kinds_push : (K : ActorRecord → Type 0) (next : ℕ) (actors : List ActorRecord) (fresh : ActorRecord) → Tree next actors → fresh.number ≡ next → AllByRecursion K actors

@@ -1,3 +1,4 @@
+use Rattle.office_types.proofs.ValidityActorLemmas.{start_sound}
 use Rattle.office_types.proofs.ValidityChangeLemmas.{letter_sound}
 use Rattle.office_types.proofs.ValidityStopLemmas.{parent_stays}
 use Rattle.office_types.proofs.ValidityLemmas.{valid_from}
