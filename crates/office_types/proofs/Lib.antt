@@ -17,3 +17,6 @@ mod ValidityEndLemmas
 mod ValidityLemmas
 mod ValidityChangeLemmas
 mod ValidityActorLemmas
+mod ValidityEventLemmas
+mod ValidityKindLemmas
+mod ValidityCallerLemmas

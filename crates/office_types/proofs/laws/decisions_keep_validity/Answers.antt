@@ -1,3 +1,5 @@
+use Rattle.office_types.proofs.ValidityCallerLemmas.{rules_reply}
+use Rattle.office_types.proofs.ValidityKindLemmas.{told_sound}
 use Rattle.office_types.proofs.ValidityActorLemmas.{start_sound}
 use Rattle.office_types.proofs.ValidityChangeLemmas.{letter_sound}
 use Rattle.office_types.proofs.ValidityStopLemmas.{parent_stays}
