@@ -20,3 +20,4 @@ mod ValidityActorLemmas
 mod ValidityEventLemmas
 mod ValidityKindLemmas
 mod ValidityCallerLemmas
+mod ValidityDecisionLemmas

@@ -1,3 +1,4 @@
+use Rattle.office_types.proofs.ValidityDecisionLemmas.{runs_after_end}
 use Rattle.office_types.proofs.ValidityCallerLemmas.{rules_reply}
 use Rattle.office_types.proofs.ValidityKindLemmas.{told_sound}
 use Rattle.office_types.proofs.ValidityActorLemmas.{start_sound}
