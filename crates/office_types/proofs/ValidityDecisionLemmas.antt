@@ -37,11 +37,11 @@ use Rattle.office_types.specs.SystemNames.{holder_of}
 use Rattle.office_types.specs.Timers.{by_due, due_by, insert_by_due, not_due}
 use Rattle.office_types.specs.ValidOffice.{IsGiven, IsValidOffice}
 use Rattle.office_types.proofs.ValidityListLemmas.{at, at_number, at_same, each_filter, each_mono, filter_same, look_each, look_map, look_number, look_push, sum_at_le, sum_map_le, sum_push}
-use Rattle.office_types.proofs.ValidityTreeLemmas.{among_itself, among_one, below, below_found, below_from, given_in, none_from_next, number_of, parent_in, parents_smaller, record_in, subtree_is}
+use Rattle.office_types.proofs.ValidityTreeLemmas.{among_itself, among_one, below, below_found, below_from, given_in, none_from_next, number_of, parent_in, parent_smaller, parents_smaller, record_in, subtree_is}
 use Rattle.office_types.proofs.ValidityStopLemmas.{same_bytes}
 use Rattle.office_types.proofs.ValidityPartLemmas.{FitsOrigin, FitsTimer, Parts, Stands, running, runs, runs_from, runs_map}
 use Rattle.office_types.proofs.ValidityEndLemmas.{end_cases, mailbox_after, number_after, stays_after}
-use Rattle.office_types.proofs.ValidityLemmas.{Counts, Kind, Sound, caller_rules, sound_from, valid_from}
+use Rattle.office_types.proofs.ValidityLemmas.{CallerRules, Counts, Kind, Sound, caller_rules, sound_from, valid_from}
 use Rattle.office_types.proofs.ValidityChangeLemmas.{Except, letter_sound, new_letter}
 use Rattle.office_types.proofs.ValidityActorLemmas.{end_sound, fewer_timers_sound, moment_sound, start_sound}
 use Rattle.office_types.proofs.ValidityEventLemmas.{begins_none, done_begins_none, done_is_event, error_begins_none, error_is_event, init_begins, init_is_event}
@@ -206,3 +206,194 @@ runs_after_end K callers state sound end n p same_number empty unnamed less is =
     (λ a seen active own. (
       let same : f a ≡ a = stays_after gone n end same_number empty unnamed itself a (ap (is_among gone) (look_number number_of state.actors p a seen) ∙ beside) in
       (ap is_active same ∙ active, ap (λ (z : ActorRecord). is_some z.own) same ∙ own))) is
+
+-- an actor ends, and its parent is told
+module _ (definitions : OfficeDefinitions) (K : ActorRecord → Type 0) (callers : List Caller) (state : OfficeState) (n : ℕ) (actor : ActorRecord) (end : ActorRecord → ActorRecord) (sound : Sound K callers state)
+    (seen : record_in state.actors n ≡ Some actor) (active : is_active actor ≡ true) (same_number : (a : ActorRecord) → (end a).number ≡ a.number) (same_parent : (a : ActorRecord) → (end a).parent ≡ a.parent)
+    (same_kids : (a : ActorRecord) → (end a).kids ≡ a.kids) (inactive : (a : ActorRecord) → is_active (end a) ≡ false) (empty : (a : ActorRecord) → (end a).mailbox ≡ []) (unnamed : (a : ActorRecord) → (end a).system ≡ None)
+    (stands_end : (a : ActorRecord) → is_active a ≡ true → Stands a → Stands (end a)) (kind_end : (a : ActorRecord) → a.number ≡ n → K a → Kind definitions (end a)) (others : (a : ActorRecord) → a.number ≢ n → K a → Kind definitions a) where
+  pub ended_sound : Sound (Kind definitions) callers (after_end end n state)
+  ended_sound =
+      end_sound K (Kind definitions) callers state n end sound same_number same_parent same_kids inactive empty unnamed
+      (λ a there stands. (
+        let same_record : Some actor ≡ Some a = sym seen ∙ there in
+        let same : actor ≡ a = cc in
+        stands_end a (ap is_active (sym same) ∙ active) stands))
+      (λ a there kind. kind_end a (look_number number_of state.actors n a there) kind)
+      (λ a differs is kind. kind_stopped definitions a (others a differs kind)) others
+
+  pub given_after : IsGiven (after_end end n state).next_actor n
+  given_after = let given : IsGiven state.next_actor n = given_in state.next_actor state.actors sound.tree n actor seen in (given.0, omega (arith, given.1, actors_after_end end n state))
+
+  pub parent_runs_after : (p : ℕ) → parent_of (after_end end n state) n ≡ Some p → runs (after_end end n state).actors p ≡ true
+  parent_runs_after p is =
+      let before : parent_of state n ≡ Some p = sym (parent_after_end end n n state same_number same_parent empty unnamed) ∙ is in
+      let own_parent : actor.parent ≡ Some p = ap (option_and_then (λ (a : ActorRecord). a.parent)) (sym seen) ∙ before in
+      runs_after_end K callers state sound end n p same_number empty unnamed (parent_smaller state.next_actor state.actors sound.tree n p before)
+      (parent_runs definitions K callers state sound n p actor seen active own_parent (λ b there less kind. others b (λ same. (let at_p : b.number ≡ p = look_number number_of state.actors p b there in omega arith)) kind))
+
+  -- the room of a letter stays
+  pub room_after_end : has_letter_room state 1 ≡ true → has_letter_room (after_end end n state) 1 ≡ true
+  room_after_end room =
+      let rooms = room_of state 1 room in
+      let fewer = waiting_after_end end n state same_number empty unnamed in
+      room_from (after_end end n state) 1 (omega (arith, rooms.0)) (omega (arith, rooms.1, letters_after_end end n state))
+
+module _ (definitions : OfficeDefinitions) (callers : List Caller) (state : OfficeState) (sound : Sound (Kind definitions) callers state) where
+  open_record : (n : ℕ) → is_open_item state n ≡ true → (a : ActorRecord) × (record_in state.actors n ≡ Some a) × (is_active a ≡ true)
+  open_record n is = by_record (record_of state n) refl is where
+    by_record : (o : Option ActorRecord) → record_of state n ≡ o → option_map_or (λ (a : ActorRecord). is_active a && is_some a.item) o false ≡ true → (a : ActorRecord) × (record_in state.actors n ≡ Some a) × (is_active a ≡ true)
+    by_record None there is = absurd (true≢false (sym is))
+    by_record (Some a) there is = (a, there, (and_parts (is_active a) (is_some a.item) is).0)
+
+  -- where the letters to a parent find room, one does if there is a parent
+  parent_room : (n p : ℕ) → has_letter_room state (letters_to_parent state n) ≡ true → parent_of state n ≡ Some p → has_letter_room state 1 ≡ true
+  parent_room n p room is = ap (λ (o : Option ℕ). has_letter_room state (option_map_or (λ (parent : ℕ). 1) o 0)) (sym is) ∙ room
+
+  closed_sound : (n : ℕ) (end : ActorRecord → ActorRecord) (event : List ℕ → Value) → is_open_item state n ≡ true → has_letter_room state (letters_to_parent state n) ≡ true
+      → ((a : ActorRecord) → (end a).number ≡ a.number) → ((a : ActorRecord) → (end a).parent ≡ a.parent) → ((a : ActorRecord) → (end a).kids ≡ a.kids) → ((a : ActorRecord) → is_active (end a) ≡ false) → ((a : ActorRecord) → (end a).mailbox ≡ [])
+      → ((a : ActorRecord) → (end a).system ≡ None) → ((a : ActorRecord) → is_active a ≡ true → Stands a → Stands (end a)) → ((a : ActorRecord) → Kind definitions a → Kind definitions (end a))
+      → ((id : List ℕ) → is_event (event id) ≡ true) → ((id : List ℕ) → begins_none (event id)) → Sound (Kind definitions) callers (with_letter_to_parent (after_end end n state) n event)
+  closed_sound n end event is_open room same_number same_parent same_kids inactive empty unnamed stands_end kind_end fits begins =
+      let item = open_record n is_open in
+      told_sound definitions callers (after_end end n state) n event
+      (ended_sound definitions (Kind definitions) callers state n item.0 end sound item.1 item.2 same_number same_parent same_kids inactive empty unnamed stands_end (λ a same kind. kind_end a kind) (λ a differs kind. kind))
+      (given_after definitions (Kind definitions) callers state n item.0 end sound item.1 item.2 same_number same_parent same_kids inactive empty unnamed stands_end (λ a same kind. kind_end a kind) (λ a differs kind. kind))
+      fits begins
+      (parent_runs_after definitions (Kind definitions) callers state n item.0 end sound item.1 item.2 same_number same_parent same_kids inactive empty unnamed stands_end (λ a same kind. kind_end a kind) (λ a differs kind. kind))
+      (λ p is. room_after_end definitions (Kind definitions) callers state n item.0 end sound item.1 item.2 same_number same_parent same_kids inactive empty unnamed stands_end (λ a same kind. kind_end a kind) (λ a differs kind. kind)
+        (parent_room n p room (sym (parent_after_end end n n state same_number same_parent empty unnamed) ∙ is)))
+
+  resolve_granted : (caller : List ℕ) (n : ℕ) (output : Value) → HasAskForm (ask.Resolve n output) → refusal definitions state (ask.Resolve n output) ≡ None → Sound (Kind definitions) callers (after_grant definitions caller (ask.Resolve n output) state)
+  resolve_granted caller n output form none =
+      let after_item = both_none (item_row state n) (first_row (closed_row state n ∷ letters_row state (letters_to_parent state n) ∷ [])) none in
+      let after_closed = both_none (closed_row state n) (first_row (letters_row state (letters_to_parent state n) ∷ [])) after_item.1 in
+      let after_letters = both_none (letters_row state (letters_to_parent state n)) None after_closed.1 in
+      closed_sound n (done_record output) (done_event output) (not_fails (is_open_item state n) (test_fails _ 410 word.Closed n after_closed.0))
+      (not_fails (has_letter_room state (letters_to_parent state n)) (test_fails _ 429 word.Letters MAX_LETTERS after_letters.0))
+      (λ a. refl) (λ a. refl) (λ a. refl) (λ a. refl) (λ a. refl) (λ a. refl) (λ a active stands. stands_done output a active form.1 stands)
+      (λ a kind. kind_over definitions a (done_record output a) refl refl refl refl refl refl kind) (λ id. done_is_event output id form.1) (done_begins_none output)
+
+  reject_granted : (caller : List ℕ) (n : ℕ) (error : Value) → HasAskForm (ask.Reject n error) → refusal definitions state (ask.Reject n error) ≡ None → Sound (Kind definitions) callers (after_grant definitions caller (ask.Reject n error) state)
+  reject_granted caller n error form none =
+      let after_item = both_none (item_row state n) (first_row (closed_row state n ∷ letters_row state (letters_to_parent state n) ∷ [])) none in
+      let after_closed = both_none (closed_row state n) (first_row (letters_row state (letters_to_parent state n) ∷ [])) after_item.1 in
+      let after_letters = both_none (letters_row state (letters_to_parent state n)) None after_closed.1 in
+      closed_sound n (error_record error) (error_event error) (not_fails (is_open_item state n) (test_fails _ 410 word.Closed n after_closed.0))
+      (not_fails (has_letter_room state (letters_to_parent state n)) (test_fails _ 429 word.Letters MAX_LETTERS after_letters.0))
+      (λ a. refl) (λ a. refl) (λ a. refl) (λ a. refl) (λ a. refl) (λ a. refl) (λ a active stands. stands_error error a active form.1 stands)
+      (λ a kind. kind_over definitions a (error_record error a) refl refl refl refl refl refl kind) (λ id. error_is_event error id form.1) (error_begins_none error)
+
+-- ---- the advance of the moment
+
+each_inserted : (P : Timer → Type 0) (timer : Timer) (timers : List Timer) → P timer → AllByRecursion P timers → AllByRecursion P (insert_by_due timer timers)
+each_inserted P timer [] is all = (is, tt)
+each_inserted P timer (other ∷ others) is all = by_due_test (each_inserted P timer others is all.1) (nat_le timer.due other.due) where
+  by_due_test : AllByRecursion P (insert_by_due timer others) → (b : Bool) → AllByRecursion P (if b then timer ∷ other ∷ others else other ∷ insert_by_due timer others)
+  by_due_test rest true = (is, all)
+  by_due_test rest false = (all.0, rest)
+
+each_by_due : (P : Timer → Type 0) (timers : List Timer) → AllByRecursion P timers → AllByRecursion P (by_due timers)
+each_by_due P [] all = tt
+each_by_due P (timer ∷ timers) all = each_inserted P timer (by_due timers) all.0 (each_by_due P timers all.1)
+
+-- what a timer becomes a letter of
+record IsDue (next : ℕ) (timer : Timer) : Type 0 where
+  owner : IsGiven next timer.owner
+  event : is_event timer.event ≡ true
+  begins : begins_none timer.event
+
+pub timed_begins_none : (event : Value) → event_type event ≢ Some init_type → begins_none event
+timed_begins_none event other = by_type (event_type event) refl where
+  by_bytes : (type : List ℕ) → event_type event ≡ Some type → (b : Bool) → bytes_eq init_type type ≡ b → b ≡ false
+  by_bytes type typed true is = absurd (other (typed ∙ ap (λ (t : List ℕ). Some t) (sym (same_bytes init_type type is))))
+  by_bytes type typed false is = refl
+
+  by_type : (o : Option (List ℕ)) → event_type event ≡ o → option_map_or (bytes_eq init_type) o false ≡ false
+  by_type None typed = refl
+  by_type (Some type) typed = by_bytes type typed (bytes_eq init_type type) refl
+
+runs_mail : (letter : Letter) (actors : List ActorRecord) (n m : ℕ) → runs (map (at number_of n (with_mail letter)) actors) m ≡ runs actors m
+runs_mail letter actors n m =
+    ap (λ (o : Option ActorRecord). option_map_or (λ (a : ActorRecord). is_active a && is_some a.own) o false) (look_map number_of (at number_of n (with_mail letter)) (at_number number_of n (with_mail letter) (λ a. refl)) actors m)
+    ∙ by_record (record_in actors m) where
+  by_record : (o : Option ActorRecord) → option_map_or (λ (a : ActorRecord). is_active a && is_some a.own) (option_map (at number_of n (with_mail letter)) o) false ≡ option_map_or (λ (a : ActorRecord). is_active a && is_some a.own) o false
+  by_record None = refl
+  by_record (Some a) = at_same number_of (λ (z : ActorRecord). is_active z && is_some z.own) n (with_mail letter) (λ z. refl) a
+
+module _ (definitions : OfficeDefinitions) (callers : List Caller) where
+  -- so many of the timers become letters
+  abbrev letters_from : OfficeState → List Timer → ℕ
+  letters_from state timers = length (filter (λ (timer : Timer). is_active_machine state timer.target) timers)
+
+  delivered : (timers : List Timer) (state : OfficeState) → Sound (Kind definitions) callers state → AllByRecursion (IsDue state.next_actor) timers → has_letter_room state (letters_from state timers) ≡ true
+      → Sound (Kind definitions) callers (fold with_delivery state timers)
+  delivered [] state sound all room = sound
+  delivered (timer ∷ timers) state sound all room = by_target (λ after. delivered timers after) (is_active_machine state timer.target) refl room where
+    by_target : ((after : OfficeState) → Sound (Kind definitions) callers after → AllByRecursion (IsDue after.next_actor) timers → has_letter_room after (letters_from after timers) ≡ true → Sound (Kind definitions) callers (fold with_delivery after timers))
+        → (b : Bool) → is_active_machine state timer.target ≡ b
+        → has_letter_room state (length (cond b (timer ∷ filter (λ (t : Timer). is_active_machine state t.target) timers) (filter (λ (t : Timer). is_active_machine state t.target) timers))) ≡ true
+        → Sound (Kind definitions) callers (fold with_delivery (if b then with_letter state (origin.Actor timer.owner) timer.target timer.event else state) timers)
+    by_target rest false is room = rest state sound all.1 room
+    by_target rest true is room =
+        let letter : Letter = new_letter state (origin.Actor timer.owner) timer.event in
+        let after : OfficeState = with_letter state (origin.Actor timer.owner) timer.target timer.event in
+        let rooms = room_of state (suc (letters_from state timers)) room in
+        let same : letters_from after timers ≡ letters_from state timers =
+            ap length (filter_same (λ (t : Timer). is_active_machine after t.target) (λ (t : Timer). is_active_machine state t.target) timers (λ t. runs_mail letter state.actors timer.target t.target)) in
+        let more = sum_at_le number_of (λ (a : ActorRecord). length a.mailbox) 1 timer.target (with_mail letter) state.actors sound.tree.rise (λ a. omega (arith, length-append a.mailbox (letter ∷ []))) in
+        rest after
+        (sent_sound definitions callers state sound (origin.Actor timer.owner) timer.target timer.event all.0.owner all.0.event all.0.begins is (room_from state 1 (omega (arith, rooms.0)) (omega (arith, rooms.1))))
+        all.1 (room_from after (letters_from after timers) (omega (arith, rooms.0)) (omega (arith, rooms.1)))
+
+  module _ (state : OfficeState) (sound : Sound (Kind definitions) callers state) where
+    each_due : (moment : ℕ) → AllByRecursion (IsDue state.next_actor) (due_by moment state.timers)
+    each_due moment =
+        each_by_due (IsDue state.next_actor) (filter (λ (timer : Timer). nat_le timer.due moment) state.timers)
+        (each_filter (IsDue state.next_actor) (λ (timer : Timer). nat_le timer.due moment) state.timers
+        (each_mono (FitsTimer state.next_actor state.next_timer state.actors) (IsDue state.next_actor) state.timers
+        (λ timer fits. (
+          let runner = running state.actors timer.owner fits.owner in
+          record { owner = given_in state.next_actor state.actors sound.tree timer.owner runner.0 runner.1; event = fits.event; begins = timed_begins_none timer.event fits.no_init })) sound.parts.timers_fit))
+
+    at_granted : (caller : List ℕ) (moment : ℕ) → HasAskForm (ask.At moment) → refusal definitions state (ask.At moment) ≡ None → Sound (Kind definitions) callers (after_grant definitions caller (ask.At moment) state)
+    unfolding after_advance
+    at_granted caller moment form none =
+        let after_moment = both_none (moment_row state moment) (first_row (letters_row state (due_letters state moment) ∷ [])) none in
+        let after_letters = both_none (letters_row state (due_letters state moment)) None after_moment.1 in
+        delivered (due_by moment state.timers) (record state { moment = moment; timers = not_due moment state.timers })
+        (moment_sound (Kind definitions) callers (record state { timers = not_due moment state.timers }) moment form
+        (fewer_timers_sound (Kind definitions) callers state (λ (timer : Timer). not (nat_le timer.due moment)) sound))
+        (each_due moment) (not_fails (has_letter_room state (due_letters state moment)) (test_fails _ 429 word.Letters MAX_LETTERS after_letters.0))
+
+    granted : (caller : List ℕ) (asked : Ask) → HasAskForm asked → refusal definitions state asked ≡ None → Sound (Kind definitions) callers (after_grant definitions caller asked state)
+    granted caller (ask.Start machine system input) form none = start_granted definitions callers state sound caller machine system input form none
+    granted caller (ask.Send n event) form none = send_granted definitions callers state sound caller n event form none
+    granted caller (ask.Resolve n output) form none = resolve_granted definitions callers state sound caller n output form none
+    granted caller (ask.Reject n error) form none = reject_granted definitions callers state sound caller n error form none
+    granted caller (ask.At moment) form none = at_granted caller moment form none
+
+-- ---- the law
+
+pub decisions_keep_validity : DecisionsKeepValidity
+unfolding decided
+decisions_keep_validity definitions state request valid is_request = answered (undecided state request) refl where
+  decided_one : (row : Row) → refusal definitions state request.ask ≡ row → undecided state request ≡ None → IsValidOffice definitions (decision_by definitions state request row).after
+  decided_one (Some refused) is none =
+      let room = decidable state request none in
+      let sound = sound_from definitions state valid room.entries in
+      valid_from definitions state (with_reply request.caller refused state.callers) state.callers
+      (rules_reply state request refused room is_request.1.form.caller (refusal_in_table definitions state request.ask refused is) (caller_rules definitions state valid)) sound
+  decided_one None is none =
+      let room = decidable state request none in
+      let sound = sound_from definitions state valid room.entries in
+      let reply : Reply = grant state request.ask in
+      let after : OfficeState = after_grant definitions request.caller request.ask state in
+      let sound_after = granted definitions state.callers state sound request.caller request.ask is_request.1.form.ask is in
+      valid_from definitions after (with_reply request.caller reply after.callers) state.callers
+      (subst (λ (callers : List Caller). CallerRules (with_reply request.caller reply callers)) (sym sound_after.counts.same_callers)
+        (rules_reply state request reply room is_request.1.form.caller (grant_in_table state request.ask) (caller_rules definitions state valid))) sound_after
+
+  answered : (row : Row) → undecided state request ≡ row → IsValidOffice definitions (answer_by definitions state request row).after
+  answered (Some reply) is = valid
+  answered None is = decided_one (refusal definitions state request.ask) refl is
