@@ -1,39 +1,32 @@
 -- What new actors, removals, ends and timers keep of a valid office.
-use Rattle.std.proofs.Common.{◌≡◌, ◌≢◌, ◌⊎◌, inl, inr, ℕ, suc, zero, ◌+◌, ◌<◌, ◌≤◌, Bool, true, false, cond, not, ◌&&◌, true≢false, List, [], ◌∷◌, ◌++◌, length, length-append, map, drop, refl, sym, ap, subst, ◌∙◌, arith}
-use Rattle.std.specs.Prelude.{Option, None, Some, is_some, filter, find, fold, sum_by, count_by, nat_eq, nat_le, nat_lt, IsTrue, IfSome, if◌then◌else◌, option_to_list, ⊤}
+use Rattle.std.proofs.Common.{◌≡◌, ◌≢◌, inl, inr, ℕ, ◌+◌, ◌<◌, ◌≤◌, Bool, true, false, not, true≢false, List, [], ◌∷◌, ◌++◌, length, refl, sym, ap, ◌∙◌, arith}
+use Rattle.std.specs.Prelude.{Option, None, Some, is_some, filter, fold, nat_lt, if◌then◌else◌}
 use Rattle.std.specs.List.{AllByRecursion}
 use Rattle.std.specs.Map.{lookup}
 use Rattle.std.specs.Option.{option_map_or, option_or}
 use Rattle.std.specs.Str.{bytes_eq}
-use Rattle.std.proofs.lemmas.Bool.{and_parts, cases_Bool, eqb-true, eqb-false, eq-eqb, leb-true, ltb-true, ne_eqb}
-use Rattle.std.proofs.lemmas.List.Sums.{sum_by-cons}
-use Rattle.xs_model.specs.declared.value.Value.{Value}
+use Rattle.std.proofs.lemmas.Bool.{and_parts, cases_Bool, ltb-true}
 use Rattle.office_types.specs.declared.limits.TheConstants.{MAX_ACTIVE_ACTORS, MAX_LETTERS, MAX_MOMENT, MAX_NEXT_NUMBER, MAX_TIMERS}
 use Rattle.office_types.specs.declared.office.ActorRecord.{ActorRecord}
 use Rattle.office_types.specs.declared.office.Caller.{Caller}
-use Rattle.office_types.specs.declared.office.Letter.{Letter}
 use Rattle.office_types.specs.declared.office.OfficeState.{OfficeState}
-use Rattle.office_types.specs.declared.office.Origin.{Origin}
 use Rattle.office_types.specs.declared.office.Status.TheVariants as status
 use Rattle.office_types.specs.declared.office.Timer.{Timer}
-use Rattle.office_types.specs.declared.outcome.Own.{Own}
 use Rattle.office_types.specs.Effects.{has_actor_room, is_name_held, with_kid, with_record, without_kid}
 use Rattle.office_types.specs.Ends.{after_end, ended_record, is_among, record_after_end, removed, subtree_of}
-use Rattle.office_types.specs.Limits.{is_event, is_name, is_short}
-use Rattle.office_types.specs.Mailboxes.{has_letter_room, waiting_letters, with_letter, with_mail, without_head}
-use Rattle.office_types.specs.Records.{active_actors, is_active, is_active_status, with_actor}
-use Rattle.office_types.specs.Step.{with_own}
+use Rattle.office_types.specs.Mailboxes.{waiting_letters}
+use Rattle.office_types.specs.Records.{active_actors, is_active, with_actor}
 use Rattle.office_types.specs.SystemNames.{holder_of, with_holder, without_holder}
 use Rattle.office_types.specs.Timers.{without_owner}
-use Rattle.office_types.specs.ValidOffice.{AreOfOneId, IsGiven, IsNextNumber, name_of}
-use Rattle.office_types.proofs.ValidityListLemmas.{Pairs, Rises, at, at_number, at_same, each_at, each_both, each_filter, each_look, each_map, each_mono, each_push, length_filter_le, look_each, look_filter, look_map, look_number, look_push, pairs_filter, pairs_push, passing_filter_le, passing_map_le, passing_push_le, rises_at, sum_at_le, sum_filter_le, sum_map_le, sum_push}
-use Rattle.office_types.proofs.ValidityTreeLemmas.{Tree, among_itself, among_one, below, below_closed, below_found, below_from, given_in, number_of, parent_in, parents_smaller, record_in, subtree_is, tree_map, tree_spawn, tree_start, within}
+use Rattle.office_types.specs.ValidOffice.{AreOfOneId, IsGiven, IsNextNumber}
+use Rattle.office_types.proofs.ValidityListLemmas.{Pairs, Rises, at, each_at, each_filter, each_look, each_map, each_mono, length_filter_le, look_each, look_filter, look_number, look_push, pairs_filter, pairs_push, passing_filter_le, passing_map_le, passing_push_le, sum_filter_le, sum_map_le, sum_push}
+use Rattle.office_types.proofs.ValidityTreeLemmas.{among_itself, below, below_closed, below_found, given_in, number_of, parents_smaller, record_in, tree_map, tree_spawn, tree_start, within}
 use Rattle.office_types.proofs.ValidityStopLemmas.{tree_stop}
-use Rattle.office_types.proofs.ValidityPartLemmas.{FitsOrigin, FitsTimer, Mail, Parts, Stands, numbered, parts_letter, parts_map, running, runs, runs_from, runs_map}
+use Rattle.office_types.proofs.ValidityPartLemmas.{FitsTimer, Stands, running, runs}
 use Rattle.office_types.proofs.ValidityEndLemmas.{end_cases, fold_without, mailbox_after, number_after, parts_end, parts_gone, parts_push, stays_after}
 use Rattle.office_types.proofs.ValidityLemmas.{Counts, Sound}
 
-use Rattle.office_types.proofs.ValidityChangeLemmas.{Except, active_at_le, either_at, kinds_push, parts_quiet, tree_at}
+use Rattle.office_types.proofs.ValidityChangeLemmas.{Except, active_at_le, either_at, kinds_push, parts_quiet}
 
 -- ---- new actors
 

@@ -1,8 +1,8 @@
 -- The callers of a valid office after a decision, and what the rows of the table leave.
-use Rattle.std.proofs.Common.{◌≡◌, ◌≢◌, ◌⊎◌, inl, inr, ℕ, suc, zero, ◌+◌, ◌<◌, ◌≤◌, Bool, true, false, cond, not, ◌&&◌, true≢false, List, [], ◌∷◌, ◌++◌, length, length-append, map, refl, sym, ap, subst, ◌∙◌, arith}
-use Rattle.std.specs.Prelude.{Option, None, Some, is_none, is_some, find, sum_by, nat_le, All, AllPairs, Contains, IsTrue, if◌then◌else◌, ⊤}
+use Rattle.std.proofs.Common.{◌≡◌, ◌≢◌, inl, inr, ℕ, ◌+◌, ◌<◌, ◌≤◌, Bool, true, false, cond, not, ◌&&◌, true≢false, List, [], ◌∷◌, ◌++◌, length, length-append, refl, sym, subst, ◌∙◌, arith}
+use Rattle.std.specs.Prelude.{Option, None, Some, is_none, find, sum_by, nat_le, Contains, IsTrue, if◌then◌else◌}
 use Rattle.std.specs.List.{AllByRecursion}
-use Rattle.std.specs.Option.{option_map, option_map_or, option_or}
+use Rattle.std.specs.Option.{option_map, option_or}
 use Rattle.std.specs.Str.{bytes_eq}
 use Rattle.std.proofs.lemmas.Bool.{and_cases, leb-false}
 use Rattle.std.proofs.lemmas.List.Elements.{All-from_recursion, recursion_from_All}
@@ -21,8 +21,8 @@ use Rattle.office_types.specs.Decisions.{Row, actor_row, actors_row, caller_of, 
 use Rattle.office_types.specs.Definitions.{OfficeDefinitions}
 use Rattle.office_types.specs.ValidOffice.{IsCaller, IsDecidedReply, decided_words}
 use Rattle.office_types.proofs.ValidityLemmas.{CallerRules}
-use Rattle.office_types.proofs.ValidityListLemmas.{Pairs, all_from_pairs, each_mono, each_push, pairs_from}
-use Rattle.office_types.proofs.ValidityStopLemmas.{bytes_same, same_bytes}
+use Rattle.office_types.proofs.ValidityListLemmas.{Pairs, all_from_pairs, each_push, pairs_from}
+use Rattle.office_types.proofs.ValidityStopLemmas.{bytes_same}
 
 -- ---- rows
 

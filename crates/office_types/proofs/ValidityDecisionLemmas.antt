@@ -1,31 +1,27 @@
 -- A decision keeps an office valid.
-use Rattle.std.proofs.Common.{◌≡◌, ◌≢◌, ◌⊎◌, inl, inr, ℕ, suc, zero, ◌+◌, ◌<◌, ◌≤◌, Bool, true, false, cond, not, ◌&&◌, true≢false, List, [], ◌∷◌, ◌++◌, length, length-append, map, refl, sym, ap, subst, ◌∙◌, arith}
-use Rattle.std.specs.Prelude.{Option, None, Some, is_none, is_some, filter, find, fold, sum_by, nat_eq, nat_le, nat_lt, IsTrue, IfSome, position, if◌then◌else◌, ⊤}
+use Rattle.std.proofs.Common.{◌≡◌, ◌≢◌, inl, inr, ℕ, suc, ◌<◌, ◌≤◌, Bool, true, false, cond, not, ◌&&◌, true≢false, List, [], ◌∷◌, ◌++◌, length, length-append, map, refl, sym, ap, subst, ◌∙◌, arith}
+use Rattle.std.specs.Prelude.{Option, None, Some, is_some, filter, fold, nat_le, nat_lt, IsTrue, IfSome, position, if◌then◌else◌}
 use Rattle.std.specs.List.{AllByRecursion, position_or_len}
 use Rattle.std.specs.Option.{option_and_then, option_map, option_map_or, option_or}
 use Rattle.std.specs.Str.{bytes_eq}
 use Rattle.std.proofs.lemmas.Bool.{and_parts, cases_Bool, eq-eqb, ltb-true}
 use Rattle.xs_model.specs.declared.value.Value.{Value}
-use Rattle.office_types.specs.declared.limits.TheConstants.{MAX_ACTIVE_ACTORS, MAX_LETTERS, MAX_MOMENT, MAX_NEXT_NUMBER}
+use Rattle.office_types.specs.declared.limits.TheConstants.{MAX_ACTIVE_ACTORS, MAX_LETTERS}
 use Rattle.office_types.specs.declared.office.ActorRecord.{ActorRecord}
 use Rattle.office_types.specs.declared.office.Caller.{Caller}
-use Rattle.office_types.specs.declared.office.Item.{Item}
 use Rattle.office_types.specs.declared.office.Letter.{Letter}
 use Rattle.office_types.specs.declared.office.OfficeState.{OfficeState}
 use Rattle.office_types.specs.declared.office.Origin.{Origin}
 use Rattle.office_types.specs.declared.office.Origin.TheVariants as origin
-use Rattle.office_types.specs.declared.office.Status.TheVariants as status
 use Rattle.office_types.specs.declared.office.Timer.{Timer}
-use Rattle.office_types.specs.declared.outcome.Own.{Own}
 use Rattle.office_types.specs.declared.request.Ask.{Ask}
 use Rattle.office_types.specs.declared.request.Ask.TheVariants as ask
 use Rattle.office_types.specs.declared.request.Reply.{Reply}
-use Rattle.office_types.specs.declared.request.Request.{Request}
 use Rattle.office_types.specs.declared.request.Word.TheVariants as word
 use Rattle.office_types.specs.Decisions.{Row, actor_row, actors_row, after_grant, answer_by, closed_row, decided, decision_by, first_row, grant, item_row, letters_row, machine_row, moment_row, name_row, refusal, reply_with, reserved_row, stopped_row, undecided, with_reply}
 use Rattle.office_types.specs.Definitions.{MachineOutline, OfficeDefinitions, machine_named}
 use Rattle.office_types.specs.Effects.{fresh_own, fresh_record, has_actor_room, is_name_held, with_machine, with_record}
-use Rattle.office_types.specs.Ends.{after_end, subtree_of, done_record, ended_record, error_record, is_among, letters_to_parent, record_after_end, with_letter_to_parent}
+use Rattle.office_types.specs.Ends.{after_end, subtree_of, done_record, error_record, is_among, letters_to_parent, record_after_end, with_letter_to_parent}
 use Rattle.office_types.specs.Events.{done_event, error_event, event_type, init_event, init_type, is_reserved}
 use Rattle.office_types.specs.Laws.{DecisionsKeepValidity}
 use Rattle.office_types.specs.Limits.{has_limits, is_event, is_name, is_short}
@@ -36,17 +32,17 @@ use Rattle.office_types.specs.Requests.{HasAskForm, IsSystemName}
 use Rattle.office_types.specs.SystemNames.{holder_of}
 use Rattle.office_types.specs.Timers.{by_due, due_by, insert_by_due, not_due}
 use Rattle.office_types.specs.ValidOffice.{IsGiven, IsValidOffice}
-use Rattle.office_types.proofs.ValidityListLemmas.{at, at_number, at_same, each_filter, each_mono, filter_same, look_each, look_map, look_number, look_push, sum_at_le, sum_map_le, sum_push}
-use Rattle.office_types.proofs.ValidityTreeLemmas.{among_itself, among_one, below, below_found, below_from, given_in, none_from_next, number_of, parent_in, parent_smaller, parents_smaller, record_in, subtree_is}
+use Rattle.office_types.proofs.ValidityListLemmas.{at, at_number, at_same, each_filter, each_mono, filter_same, look_map, look_number, look_push, sum_at_le, sum_map_le, sum_push}
+use Rattle.office_types.proofs.ValidityTreeLemmas.{among_itself, among_one, below, below_found, below_from, given_in, none_from_next, number_of, parent_smaller, parents_smaller, record_in}
 use Rattle.office_types.proofs.ValidityStopLemmas.{same_bytes}
-use Rattle.office_types.proofs.ValidityPartLemmas.{FitsOrigin, FitsTimer, Parts, Stands, running, runs, runs_from, runs_map}
+use Rattle.office_types.proofs.ValidityPartLemmas.{FitsOrigin, FitsTimer, Stands, running, runs, runs_from, runs_map}
 use Rattle.office_types.proofs.ValidityEndLemmas.{end_cases, mailbox_after, number_after, stays_after}
-use Rattle.office_types.proofs.ValidityLemmas.{CallerRules, Counts, Kind, Sound, caller_rules, sound_from, valid_from}
+use Rattle.office_types.proofs.ValidityLemmas.{CallerRules, Kind, Sound, caller_rules, sound_from, valid_from}
 use Rattle.office_types.proofs.ValidityChangeLemmas.{Except, letter_sound, new_letter}
 use Rattle.office_types.proofs.ValidityActorLemmas.{end_sound, fewer_timers_sound, moment_sound, start_sound}
 use Rattle.office_types.proofs.ValidityEventLemmas.{begins_none, done_begins_none, done_is_event, error_begins_none, error_is_event, init_begins, init_is_event}
 use Rattle.office_types.proofs.ValidityKindLemmas.{kind_begins, kind_mail, kind_over, kind_stopped, parent_runs, room_from, room_of, stands_done, stands_error, stands_fresh, told_sound}
-use Rattle.office_types.proofs.ValidityCallerLemmas.{Decidable, both_none, decidable, grant_in_table, not_fails, refusal_in_table, rules_reply, test_fails}
+use Rattle.office_types.proofs.ValidityCallerLemmas.{both_none, decidable, grant_in_table, not_fails, refusal_in_table, rules_reply, test_fails}
 
 -- ---- the letter that begins an actor
 

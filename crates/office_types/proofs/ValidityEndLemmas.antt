@@ -1,26 +1,23 @@
 -- What an office has besides its tree, after an actor was made, was removed or ended, and after its timers changed.
-use Rattle.std.proofs.Common.{◌≡◌, ◌≢◌, ◌⊎◌, inl, inr, ℕ, suc, zero, ◌+◌, ◌<◌, ◌≤◌, Bool, true, false, cond, not, ◌&&◌, ◌||◌, true≢false, List, [], ◌∷◌, ◌++◌, length, map, refl, sym, ap, subst, ◌∙◌, arith, append-nil, append_assoc}
-use Rattle.std.specs.Prelude.{Option, None, Some, is_some, filter, find, fold, sum_by, nat_eq, IsTrue, IfSome, if◌then◌else◌, option_to_list, ⊤}
+use Rattle.std.proofs.Common.{◌≡◌, ◌≢◌, ℕ, ◌+◌, ◌<◌, ◌≤◌, Bool, true, false, cond, not, ◌&&◌, ◌||◌, true≢false, List, [], ◌∷◌, ◌++◌, length, map, refl, sym, ap, subst, ◌∙◌, arith, append-nil, append_assoc}
+use Rattle.std.specs.Prelude.{Option, None, Some, is_some, filter, fold, sum_by, nat_eq, if◌then◌else◌, option_to_list}
 use Rattle.std.specs.List.{AllByRecursion}
-use Rattle.std.specs.Map.{lookup}
-use Rattle.std.specs.Option.{option_map, option_map_or, option_or}
+use Rattle.std.specs.Option.{option_map_or, option_or}
 use Rattle.std.specs.Str.{bytes_eq}
-use Rattle.std.proofs.lemmas.Bool.{cases_Bool, eqb-true, eqb-false, eq-eqb, ne_eqb}
-use Rattle.xs_model.specs.declared.value.Value.{Value}
+use Rattle.std.proofs.lemmas.Bool.{eqb-true, eqb-false}
 use Rattle.office_types.specs.declared.office.ActorRecord.{ActorRecord}
 use Rattle.office_types.specs.declared.office.Letter.{Letter}
 use Rattle.office_types.specs.declared.office.Status.TheVariants as status
 use Rattle.office_types.specs.declared.office.Timer.{Timer}
 use Rattle.office_types.specs.Ends.{ended_record, is_among, record_after_end, stopped_record}
-use Rattle.office_types.specs.Limits.{is_event, is_name}
 use Rattle.office_types.specs.Records.{is_active, is_active_status}
 use Rattle.office_types.specs.SystemNames.{holder_of, with_holder, without_holder}
-use Rattle.office_types.specs.Timers.{beside, has_id, with_scheduled, without_id, without_owner}
-use Rattle.office_types.specs.ValidOffice.{AreOfOneId, HasEnded, IsGiven, name_of, names_of}
-use Rattle.office_types.proofs.ValidityListLemmas.{Pairs, Rises, each_both, each_filter, each_look, each_map, each_mono, each_passing, each_push, filter_all, filter_filter, filter_joined, filter_none, filter_same, look, look_each, look_filter, look_map, look_number, look_push, pairs_filter, pairs_map, pairs_push, sum_filter_le, sum_map_le, sum_push}
+use Rattle.office_types.specs.Timers.{beside, without_owner}
+use Rattle.office_types.specs.ValidOffice.{AreOfOneId, name_of, names_of}
+use Rattle.office_types.proofs.ValidityListLemmas.{Pairs, Rises, each_filter, each_look, each_map, each_mono, each_passing, each_push, filter_all, filter_filter, filter_joined, filter_same, look_each, look_filter, look_number, look_push, pairs_filter, pairs_push, sum_filter_le, sum_map_le, sum_push}
 use Rattle.office_types.proofs.ValidityTreeLemmas.{number_of, record_in}
 use Rattle.office_types.proofs.ValidityPartLemmas.{FitsLetter, FitsTimer, Mail, Parts, Stands, letter_more, numbered, running, runs, runs_from, runs_map, timer_more}
-use Rattle.office_types.proofs.ValidityStopLemmas.{bytes_same, same_bytes}
+use Rattle.office_types.proofs.ValidityStopLemmas.{bytes_same}
 
 -- ---- a record more
 

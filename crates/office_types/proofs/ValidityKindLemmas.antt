@@ -1,9 +1,7 @@
 -- The kinds of actors, the events that the office makes, and what parents are told.
-use Rattle.std.proofs.Common.{◌≡◌, ◌≢◌, ◌⊎◌, inl, inr, ℕ, suc, zero, ◌+◌, ◌<◌, ◌≤◌, Bool, true, false, cond, not, ◌&&◌, true≢false, List, [], ◌∷◌, ◌++◌, length, map, refl, sym, ap, subst, ◌∙◌, arith}
-use Rattle.std.specs.Prelude.{Option, None, Some, is_some, filter, sum_by, count_by, nat_eq, nat_le, IsTrue, IfSome, All, MatchBool, codes, Result, Ok, Err, if◌then◌else◌, ⊤}
-use Rattle.std.specs.List.{AllByRecursion}
-use Rattle.std.specs.Option.{option_and_then, option_map, option_map_or}
-use Rattle.std.specs.Str.{bytes_eq}
+use Rattle.std.proofs.Common.{◌≡◌, inl, ℕ, ◌+◌, ◌<◌, ◌≤◌, Bool, true, false, true≢false, List, [], ◌∷◌, ◌++◌, length, map, refl, sym, ap, subst, ◌∙◌, arith}
+use Rattle.std.specs.Prelude.{Option, None, Some, is_some, count_by, nat_eq, nat_le, IsTrue, IfSome, MatchBool, Ok, Err, if◌then◌else◌}
+use Rattle.std.specs.Option.{option_map_or}
 use Rattle.std.proofs.lemmas.Bool.{and_parts, and_from, leb-true, le-leb}
 use Rattle.std.proofs.lemmas.List.Elements.{All-from_recursion, recursion_from_All}
 use Rattle.xs_model.specs.declared.value.Value.{Value}
@@ -14,25 +12,20 @@ use Rattle.office_types.specs.declared.office.Caller.{Caller}
 use Rattle.office_types.specs.declared.office.Item.{Item}
 use Rattle.office_types.specs.declared.office.Letter.{Letter}
 use Rattle.office_types.specs.declared.office.OfficeState.{OfficeState}
-use Rattle.office_types.specs.declared.office.Origin.{Origin}
 use Rattle.office_types.specs.declared.office.Origin.TheVariants as origin
 use Rattle.office_types.specs.declared.office.Status.TheVariants as status
-use Rattle.office_types.specs.declared.outcome.FaultName.{FaultName}
 use Rattle.office_types.specs.declared.outcome.FaultName.TheVariants as fault
 use Rattle.office_types.specs.declared.outcome.Own.{Own}
-use Rattle.office_types.specs.Definitions.{OfficeDefinitions, nodes_of}
+use Rattle.office_types.specs.Definitions.{OfficeDefinitions}
 use Rattle.office_types.specs.Effects.{fresh_own, fresh_record}
-use Rattle.office_types.specs.Ends.{after_end, after_telling_parent, child_id, done_record, ended_record, error_record, letters_to_parent, with_letter_to_parent}
-use Rattle.office_types.specs.Events.{done_event, error_event, event_type, fault_error, init_event, init_type, snapshot_event}
+use Rattle.office_types.specs.Ends.{after_telling_parent, child_id, done_record, ended_record, error_record, with_letter_to_parent}
 use Rattle.office_types.specs.Limits.{is_event, is_name, is_short}
 use Rattle.office_types.specs.Mailboxes.{has_letter_room, waiting_letters, with_letter, with_letter_if_room, with_mail}
-use Rattle.office_types.specs.Observation.{short_snapshot_event}
-use Rattle.office_types.specs.OwnParts.{IsOwnPart}
 use Rattle.office_types.specs.Records.{is_active, is_active_status, parent_of}
-use Rattle.office_types.specs.ValidOffice.{HasEnded, HasInitAsHead, HasItsInit, HasNoInit, IsGiven, IsItemActor, IsMachineActor, IsOfOneKind, is_init}
-use Rattle.office_types.proofs.ValidityListLemmas.{count_none, each_look, each_mono, each_push, look_number}
+use Rattle.office_types.specs.ValidOffice.{HasInitAsHead, HasItsInit, HasNoInit, IsGiven, IsOfOneKind, is_init}
+use Rattle.office_types.proofs.ValidityListLemmas.{each_look, each_push, look_number}
 use Rattle.office_types.proofs.ValidityEventLemmas.{begins_none, null_is_short}
-use Rattle.office_types.proofs.ValidityTreeLemmas.{given_in, number_of, parent_in, record_in}
+use Rattle.office_types.proofs.ValidityTreeLemmas.{number_of, record_in}
 use Rattle.office_types.proofs.ValidityPartLemmas.{Stands, running, runs, runs_from}
 use Rattle.office_types.proofs.ValidityLemmas.{Kind, Sound}
 use Rattle.office_types.proofs.ValidityChangeLemmas.{letter_sound, new_letter}

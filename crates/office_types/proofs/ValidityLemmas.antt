@@ -1,8 +1,7 @@
 -- A valid office as counts, a tree, what it has besides, and kinds of actors; both ways.
-use Rattle.std.proofs.Common.{◌≡◌, ◌≢◌, ◌⊎◌, inl, inr, ℕ, suc, zero, ◌+◌, ◌<◌, ◌≤◌, Bool, true, false, cond, not, ◌&&◌, true≢false, List, [], ◌∷◌, ◌++◌, length, map, refl, sym, ap, subst, ◌∙◌, arith}
-use Rattle.std.specs.Prelude.{Option, None, Some, is_some, filter, find, sum_by, count_by, nat_eq, IsTrue, IfSome, All, AllPairs, if◌then◌else◌, ⊤}
+use Rattle.std.proofs.Common.{◌≡◌, ◌≢◌, ℕ, ◌+◌, ◌<◌, ◌≤◌, Bool, true, false, cond, List, [], ◌∷◌, length, refl, sym, ap, subst, ◌∙◌, arith}
+use Rattle.std.specs.Prelude.{Option, None, Some, sum_by, count_by, nat_eq, IfSome, All, AllPairs}
 use Rattle.std.specs.List.{AllByRecursion}
-use Rattle.std.specs.Option.{option_and_then}
 use Rattle.std.proofs.lemmas.Bool.{eqb-true, eqb-false, eq-eqb, ne_eqb}
 use Rattle.std.proofs.lemmas.List.Elements.{All-from_recursion, recursion_from_All}
 use Rattle.std.proofs.lemmas.List.Sums.{sum_by-cons, sum_by-append}
@@ -14,15 +13,14 @@ use Rattle.office_types.specs.declared.office.OfficeState.{OfficeState}
 use Rattle.office_types.specs.declared.office.Origin.{Origin}
 use Rattle.office_types.specs.declared.office.Origin.TheVariants as origin
 use Rattle.office_types.specs.declared.office.Timer.{Timer}
-use Rattle.office_types.specs.Decisions.{kept_replies}
 use Rattle.office_types.specs.Definitions.{OfficeDefinitions}
 use Rattle.office_types.specs.Mailboxes.{waiting_letters}
-use Rattle.office_types.specs.Records.{active_actors, is_active}
+use Rattle.office_types.specs.Records.{active_actors}
 use Rattle.office_types.specs.Step.{with_entry}
-use Rattle.office_types.specs.ValidOffice.{AreOfOneId, HasNumbersLeft, HasParent, IsActor, IsCaller, IsChildOf, IsGiven, IsLetter, IsNextNumber, IsOfOneKind, IsOrigin, IsTimer, IsValidOffice, IsWithinLimits, letters_of}
+use Rattle.office_types.specs.ValidOffice.{AreOfOneId, HasParent, IsActor, IsCaller, IsChildOf, IsGiven, IsLetter, IsNextNumber, IsOfOneKind, IsOrigin, IsTimer, IsValidOffice, letters_of}
 use Rattle.office_types.proofs.ValidityListLemmas.{Pairs, all_from_pairs, each_flat_map, each_look, each_mono, flat_map_each, increasing_from_rises, look_each, look_number, none_counted, count_none, pairs_from, rises_from}
 use Rattle.office_types.proofs.ValidityTreeLemmas.{Child, Tree, number_of, parent_in, record_in, within, within_is}
-use Rattle.office_types.proofs.ValidityPartLemmas.{FitsLetter, FitsOrigin, FitsTimer, Mail, Parts, Stands, numbered}
+use Rattle.office_types.proofs.ValidityPartLemmas.{FitsLetter, FitsOrigin, FitsTimer, Parts, Stands}
 
 -- ---- what is counted
 

@@ -1,11 +1,9 @@
 -- What an office has besides its tree of actors: how its records stand, letters, timers and names.
-use Rattle.std.proofs.Common.{◌≡◌, ◌≢◌, ◌⊎◌, inl, inr, ℕ, suc, zero, ◌+◌, ◌<◌, ◌≤◌, Bool, true, false, cond, not, ◌&&◌, ◌||◌, true≢false, List, [], ◌∷◌, ◌++◌, length, map, drop, refl, sym, ap, subst, ◌∙◌, arith}
-use Rattle.std.specs.Prelude.{Option, None, Some, is_some, filter, find, fold, sum_by, count_by, nat_eq, IsTrue, IfSome, if◌then◌else◌, ⊤}
-use Rattle.std.specs.List.{AllByRecursion, flat_map}
-use Rattle.std.specs.Option.{option_map, option_map_or, option_or}
-use Rattle.std.proofs.lemmas.Bool.{and_parts, and_from, eqb-true, eqb-false, eq-eqb, ne_eqb}
-use Rattle.std.proofs.lemmas.List.Sums.{sum_by-cons, sum_by-append}
-use Rattle.xs_model.specs.declared.value.Value.{Value}
+use Rattle.std.proofs.Common.{◌≡◌, ◌≢◌, ℕ, ◌+◌, ◌<◌, ◌≤◌, Bool, true, false, cond, ◌&&◌, true≢false, List, [], ◌∷◌, ◌++◌, map, refl, sym, ap, ◌∙◌, arith}
+use Rattle.std.specs.Prelude.{Option, None, Some, is_some, sum_by, count_by, nat_eq, IsTrue, IfSome}
+use Rattle.std.specs.List.{AllByRecursion}
+use Rattle.std.specs.Option.{option_map, option_map_or}
+use Rattle.std.proofs.lemmas.Bool.{and_parts, and_from, eqb-true, ne_eqb}
 use Rattle.xs_model.specs.declared.value.Value.TheVariants.{Null}
 use Rattle.office_types.specs.declared.office.ActorRecord.{ActorRecord}
 use Rattle.office_types.specs.declared.office.Letter.{Letter}
@@ -13,15 +11,12 @@ use Rattle.office_types.specs.declared.office.Origin.{Origin}
 use Rattle.office_types.specs.declared.office.Origin.TheVariants as origin
 use Rattle.office_types.specs.declared.office.Status.TheVariants as status
 use Rattle.office_types.specs.declared.office.Timer.{Timer}
-use Rattle.office_types.specs.Ends.{is_among}
 use Rattle.office_types.specs.Events.{event_type, init_type}
 use Rattle.office_types.specs.Limits.{is_event, is_name, is_short}
 use Rattle.office_types.specs.Mailboxes.{with_mail}
 use Rattle.office_types.specs.Records.{is_active}
-use Rattle.office_types.specs.SystemNames.{without_holder}
-use Rattle.office_types.specs.Timers.{without_owner}
 use Rattle.office_types.specs.ValidOffice.{AreOfOneId, HasEnded, IsGiven, name_of, names_of}
-use Rattle.office_types.proofs.ValidityListLemmas.{Pairs, Rises, at, at_number, at_same, count_none, each_at, each_both, each_filter, each_look, each_map, each_mono, each_passing, each_push, filter_all, filter_filter, filter_joined, filter_none, filter_same, look, look_filter, look_map, look_number, look_push, none_counted, pairs_filter, pairs_map, pairs_push, sum_at_le, sum_filter_le, sum_map_le, sum_push, sum_zero}
+use Rattle.office_types.proofs.ValidityListLemmas.{Pairs, Rises, at, at_number, at_same, count_none, each_at, each_both, each_map, each_mono, each_push, look_map, pairs_push, sum_at_le, sum_map_le, sum_push, sum_zero}
 use Rattle.office_types.proofs.ValidityTreeLemmas.{number_of, record_in}
 
 -- ---- what each record says

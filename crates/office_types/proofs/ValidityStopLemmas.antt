@@ -1,6 +1,6 @@
 -- A child is removed with all below it, and what is left is a tree of actors.
-use Rattle.std.proofs.Common.{◌≡◌, ◌≢◌, ◌⊎◌, inl, inr, ℕ, suc, zero, ◌+◌, ◌<◌, ◌≤◌, Bool, true, false, cond, not, ◌&&◌, ◌||◌, true≢false, List, [], ◌∷◌, ◌++◌, length, map, refl, sym, ap, subst, ◌∙◌, arith}
-use Rattle.std.specs.Prelude.{Option, None, Some, filter, find, sum_by, count_by, nat_eq, if◌then◌else◌, ⊤}
+use Rattle.std.proofs.Common.{◌≡◌, ◌≢◌, inl, inr, ℕ, ◌+◌, ◌<◌, ◌≤◌, Bool, true, false, cond, not, true≢false, List, [], ◌∷◌, map, refl, sym, ap, subst, ◌∙◌, arith}
+use Rattle.std.specs.Prelude.{Option, None, Some, filter, count_by, nat_eq, if◌then◌else◌}
 use Rattle.std.specs.List.{AllByRecursion}
 use Rattle.std.specs.Map.{lookup}
 use Rattle.std.specs.Option.{option_and_then, option_map}
@@ -13,8 +13,8 @@ use Rattle.office_types.specs.Effects.{without_kid}
 use Rattle.office_types.specs.Ends.{is_among}
 use Rattle.office_types.specs.Records.{is_active}
 use Rattle.office_types.specs.ValidOffice.{IsGiven, is_kid}
-use Rattle.office_types.proofs.ValidityListLemmas.{Pairs, Rises, at, at_number, at_same, count_none, count_passing, none_counted, each_both, each_filter, each_look, each_map, each_mono, each_passing, look_filter, look_map, look_number, pairs_filter, pairs_map, rises_at}
-use Rattle.office_types.proofs.ValidityTreeLemmas.{Child, ParentIsSmaller, Tree, among_itself, among_one, below, below_cases, below_closed, below_found, below_from, chained, given_in, mapped, number_of, parent_in, parent_smaller, parents_smaller, record_in, within, within_same}
+use Rattle.office_types.proofs.ValidityListLemmas.{Pairs, at, at_number, at_same, count_passing, none_counted, each_both, each_filter, each_map, each_mono, each_passing, look_filter, look_map, look_number, pairs_filter, rises_at}
+use Rattle.office_types.proofs.ValidityTreeLemmas.{Child, Tree, among_itself, among_one, below, below_cases, below_closed, below_found, below_from, chained, mapped, number_of, parent_in, parent_smaller, parents_smaller, record_in, within_same}
 
 -- ---- bytes
 

@@ -1,20 +1,17 @@
 -- The tree of actors: parents and children fit each other, and no chain of parents is too long.
-use Rattle.std.proofs.Common.{◌≡◌, ◌≢◌, ◌⊎◌, inl, inr, ℕ, suc, zero, ◌+◌, ◌<◌, ◌≤◌, Bool, true, false, cond, not, ◌&&◌, ◌||◌, true≢false, List, [], ◌∷◌, ◌++◌, length, map, refl, sym, ap, subst, ◌∙◌, arith}
-use Rattle.std.specs.Prelude.{Option, None, Some, filter, find, fold, sum_by, count_by, nat_eq, if◌then◌else◌, ⊤}
-use Rattle.std.specs.List.{AllByRecursion, list_any}
-use Rattle.std.specs.Map.{lookup}
+use Rattle.std.proofs.Common.{◌≡◌, ◌≢◌, ◌⊎◌, inl, inr, ℕ, suc, zero, ◌+◌, ◌<◌, ◌≤◌, Bool, true, false, cond, ◌||◌, true≢false, List, [], ◌∷◌, ◌++◌, map, refl, sym, ap, subst, ◌∙◌, arith}
+use Rattle.std.specs.Prelude.{Option, None, Some, fold, count_by, nat_eq, if◌then◌else◌, ⊤}
+use Rattle.std.specs.List.{AllByRecursion}
 use Rattle.std.specs.Option.{option_and_then, option_map, option_map_or, option_or}
-use Rattle.std.specs.Str.{bytes_eq}
-use Rattle.std.proofs.lemmas.Bool.{cases_Bool, eqb-true, eqb-false, eq-eqb, ne_eqb}
-use Rattle.std.proofs.lemmas.List.Sums.{sum_by-cons, sum_by-append}
-use Rattle.std.proofs.lemmas.Slice.Eq.{bytes_eq-Decides}
+use Rattle.std.proofs.lemmas.Bool.{eqb-true, eq-eqb, ne_eqb}
+use Rattle.std.proofs.lemmas.List.Sums.{sum_by-append}
 use Rattle.office_types.specs.declared.office.ActorRecord.{ActorRecord}
 use Rattle.office_types.specs.declared.office.OfficeState.{OfficeState}
-use Rattle.office_types.specs.Effects.{is_within_levels, with_kid, without_kid}
+use Rattle.office_types.specs.Effects.{is_within_levels, with_kid}
 use Rattle.office_types.specs.Ends.{has_parent_among, is_among, subtree_of}
 use Rattle.office_types.specs.Records.{is_active}
 use Rattle.office_types.specs.ValidOffice.{IsGiven, is_kid}
-use Rattle.office_types.proofs.ValidityListLemmas.{Rises, at, at_number, at_same, count_none, count_passing, none_counted, each_at, each_filter, each_look, each_map, each_mono, each_passing, each_push, look, look_each, look_filter, look_map, look_none, look_number, look_push, pairs_filter, pairs_map, pairs_push, rises_at}
+use Rattle.office_types.proofs.ValidityListLemmas.{Rises, at, at_number, at_same, count_none, each_look, each_map, each_mono, each_push, look, look_each, look_map, look_none, look_number, look_push, pairs_map, pairs_push, rises_at}
 
 -- ---- records by their numbers
 
