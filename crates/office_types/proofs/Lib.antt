@@ -21,3 +21,4 @@ mod ValidityEventLemmas
 mod ValidityKindLemmas
 mod ValidityCallerLemmas
 mod ValidityDecisionLemmas
+mod ValidityStepLemmas

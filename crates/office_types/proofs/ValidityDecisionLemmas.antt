@@ -309,7 +309,7 @@ timed_begins_none event other = by_type (event_type event) refl where
   by_type None typed = refl
   by_type (Some type) typed = by_bytes type typed (bytes_eq init_type type) refl
 
-runs_mail : (letter : Letter) (actors : List ActorRecord) (n m : ℕ) → runs (map (at number_of n (with_mail letter)) actors) m ≡ runs actors m
+pub runs_mail : (letter : Letter) (actors : List ActorRecord) (n m : ℕ) → runs (map (at number_of n (with_mail letter)) actors) m ≡ runs actors m
 runs_mail letter actors n m =
     ap (λ (o : Option ActorRecord). option_map_or (λ (a : ActorRecord). is_active a && is_some a.own) o false) (look_map number_of (at number_of n (with_mail letter)) (at_number number_of n (with_mail letter) (λ a. refl)) actors m)
     ∙ by_record (record_in actors m) where

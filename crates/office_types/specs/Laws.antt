@@ -1,5 +1,5 @@
 -- What follows from the definitions, in the words of one who reads lines and entries.
-use Rattle.std.specs.Prelude.{◌≡◌, ◌<◌, ◌≤◌, ℕ, List, [], ◌∷◌, length, Contains, FitsSigned, IsUtf8, ⊤, if◌then◌else◌}
+use Rattle.std.specs.Prelude.{◌≡◌, ◌<◌, ◌≤◌, ℕ, List, [], ◌∷◌, length, Contains, FitsSigned, IsTrue, IsUtf8, Option, Some, ⊤, if◌then◌else◌}
 use Rattle.std.specs.Int.{w64}
 use Rattle.std.specs.List.{AllByRecursion, range_with_len}
 use Rattle.std.specs.Str.{bytes_eq}
@@ -10,15 +10,22 @@ use Rattle.xs_model.specs.Compact.{compact_text, nesting}
 use Rattle.xs_model.specs.Rising.{KeysRise}
 use Rattle.office_types.specs.declared.entry.Entry.{Entry}
 use Rattle.office_types.specs.declared.entry.Entry.TheVariants.{Decided, Step}
+use Rattle.office_types.specs.declared.limits.TheConstants.{MAX_ENTRIES}
 use Rattle.office_types.specs.declared.office.Letter.{Letter}
 use Rattle.office_types.specs.declared.office.OfficeState.{OfficeState}
+use Rattle.office_types.specs.declared.outcome.Outcome.{Outcome}
+use Rattle.office_types.specs.declared.outcome.Own.{Own}
 use Rattle.office_types.specs.declared.request.Request.{Request}
 use Rattle.office_types.specs.Decisions.{decided, next_number}
-use Rattle.office_types.specs.Definitions.{OfficeDefinitions}
+use Rattle.office_types.specs.Definitions.{AreLinked, OfficeDefinitions}
 use Rattle.office_types.specs.Entries.{AreLegal, Macrostep, after}
 use Rattle.office_types.specs.JsonValues.{MeansValue}
+use Rattle.office_types.specs.Observation.{own_of}
+use Rattle.office_types.specs.Outcomes.{IsAllowedOutcome}
+use Rattle.office_types.specs.Records.{is_ready}
 use Rattle.office_types.specs.RequestLines.{IsEntryText, IsRequest, IsRequestLine, canonical_line, entry_text}
 use Rattle.office_types.specs.Requests.{IsNumber}
+use Rattle.office_types.specs.Step.{took}
 use Rattle.office_types.specs.ValidOffice.{IsValidOffice, letters_of}
 
 -- a layer as those of values in a program are: numbers of 64 bits, texts in UTF-8, and keys in UTF-8 that rise
@@ -93,3 +100,11 @@ abbrev pub DecisionsKeepValidity : Type 0
 DecisionsKeepValidity =
     (definitions : OfficeDefinitions) (state : OfficeState) (request : Request) → IsValidOffice definitions state → IsRequest request
     → IsValidOffice definitions (decided definitions state request).after
+
+-- a step of a ready actor with an outcome that the rules allow keeps an office valid where it has room for an entry,
+-- each row of the table of actors that is of a machine naming one of the machines
+abbrev pub StepsKeepValidity : Type 0
+StepsKeepValidity =
+    (definitions : OfficeDefinitions) (state : OfficeState) (number : ℕ) (own : Own) (outcome : Outcome) → AreLinked definitions → IsValidOffice definitions state
+    → IsTrue (is_ready state number) → own_of state number ≡ Some own → IsAllowedOutcome definitions own outcome → state.entries < MAX_ENTRIES
+    → IsValidOffice definitions (took definitions number outcome state)

@@ -1,6 +1,6 @@
 //! What follows from the definitions of an office.
 
-ghost use Rattle.office_types.specs.Laws.{CanonicalLinesAreLines, CompactTextMeansItsValue, DecisionsKeepValidity, EntriesReadBack, LettersWaitedBefore, MeantValuesArePlain, RepeatsGetTheReply, RequestsStandOnce};
+ghost use Rattle.office_types.specs.Laws.{CanonicalLinesAreLines, CompactTextMeansItsValue, DecisionsKeepValidity, EntriesReadBack, LettersWaitedBefore, MeantValuesArePlain, RepeatsGetTheReply, RequestsStandOnce, StepsKeepValidity};
 ghost use Rattle.office_types.specs.RequestLines.{RequestIsUnique};
 ghost use Rattle.office_types.specs.WorkedRows.{WorkedExamples};
 
@@ -56,4 +56,9 @@ pub fn letters_waited_before()
 /// A decision on a request keeps an office valid.
 pub fn decisions_keep_validity()
     ensures { DecisionsKeepValidity }
+{}
+
+/// A step of a ready actor with an allowed outcome keeps an office valid.
+pub fn steps_keep_validity()
+    ensures { StepsKeepValidity }
 {}
