@@ -5,7 +5,7 @@ use Rattle.std.specs.List.{AllByRecursion, list_any}
 use Rattle.std.specs.Map.{lookup}
 use Rattle.std.specs.Option.{option_and_then, option_map, option_map_or, option_or}
 use Rattle.std.specs.Str.{bytes_eq}
-use Rattle.std.proofs.lemmas.Bool.{and_parts, cases_Bool, eq-eqb, eqb-true, eqb-false, leb-true, ltb-true}
+use Rattle.std.proofs.lemmas.Bool.{and_from, and_parts, cases_Bool, eq-eqb, eqb-true, eqb-false, leb-true, ltb-true, or_parts}
 use Rattle.std.proofs.lemmas.List.{map-append}
 use Rattle.std.proofs.lemmas.List.Elements.{All-from_recursion, recursion_from_All}
 use Rattle.xs_model.specs.declared.value.Value.{Value}
@@ -24,7 +24,7 @@ use Rattle.office_types.specs.declared.outcome.FaultName.TheVariants.{LettersFul
 use Rattle.office_types.specs.declared.outcome.Own.{Own}
 use Rattle.office_types.specs.declared.outcome.To.{To}
 use Rattle.office_types.specs.Definitions.{ActorLogic, AreLinked, OfficeDefinitions, nodes_of}
-use Rattle.office_types.specs.Effects.{after_cancel, after_effect, after_effects, after_schedule, after_send, after_spawn, after_stop, child_of, first_letters, fresh_own, fresh_record, has_actor_room, has_level_below, has_timer_room, is_name_held, timer_now, with_child, with_kid, with_logic, with_machine, with_record, with_timer, without_kid}
+use Rattle.office_types.specs.Effects.{after_cancel, after_effect, after_effects, after_schedule, after_send, after_spawn, after_stop, child_of, first_letters, fresh_own, fresh_record, has_actor_room, has_level_below, has_timer_room, is_name_held, timer_now, with_child, with_kid, with_logic, with_machine, with_record, with_timer, with_timer_if_room, without_kid}
 use Rattle.office_types.specs.Ends.{is_among, removed, subtree_of}
 use Rattle.office_types.specs.Events.{event_type, init_event, init_type, is_reserved}
 use Rattle.office_types.specs.Fitting.{Fitted, ◌>>=◌}
@@ -74,7 +74,47 @@ beside_differs timer timers = by_id timer.id refl where
     each_all : ((other : Timer) → AreOfOneId other timer → ⊥) → (ts : List Timer) → AllByRecursion (λ (other : Timer). AreOfOneId other timer → ⊥) ts
     each_all gives [] = tt
     each_all gives (t ∷ ts) = (gives t, each_all gives ts)
-  by_id (Some id) is = ?
+  by_id (Some id) is =
+      each_passing (λ (other : Timer). ⊤) (λ (other : Timer). AreOfOneId other timer → ⊥) (λ (other : Timer). not (has_id timer.owner id other)) timers
+      (λ other none passes same. (
+        let both : Some id ≡ Some same.0 = sym is ∙ same.3 in
+        let same_id : id ≡ same.0 = cc in
+        let has : has_id timer.owner id other ≡ true =
+            and_from (nat_eq other.owner timer.owner) (option_map_or (bytes_eq id) other.id false) (eq-eqb other.owner timer.owner same.1) (ap (λ (o : Option (List ℕ)). option_map_or (bytes_eq id) o false) same.2 ∙ bytes_same id same.0 same_id) in
+        true≢false (sym has ∙ turned (has_id timer.owner id other) passes)))
+      (all timers) where
+    all : (ts : List Timer) → AllByRecursion (λ (other : Timer). ⊤) ts
+    all [] = tt
+    all (t ∷ ts) = (tt, all ts)
+
+-- what holds of all timers holds of those beside a new one
+beside_each : (P : Timer → Type 0) (timer : Timer) (timers : List Timer) → AllByRecursion P timers → AllByRecursion P (beside timer timers)
+beside_each P timer timers all = by_id timer.id where
+  by_id : (o : Option (List ℕ)) → AllByRecursion P (option_map_or (λ (id : List ℕ). without_id timer.owner id timers) o timers)
+  by_id None = all
+  by_id (Some id) = each_filter P (λ (other : Timer). not (has_id timer.owner id other)) timers all
+
+beside_pairs : (R : Timer → Timer → Type 0) (timer : Timer) (timers : List Timer) → Pairs R timers → Pairs R (beside timer timers)
+beside_pairs R timer timers pairs = by_id timer.id where
+  by_id : (o : Option (List ℕ)) → Pairs R (option_map_or (λ (id : List ℕ). without_id timer.owner id timers) o timers)
+  by_id None = pairs
+  by_id (Some id) = pairs_filter R (λ (other : Timer). not (has_id timer.owner id other)) timers pairs
+
+-- a new timer that fits
+pub scheduled_sound : (K : ActorRecord → Type 0) (callers : List Caller) (state : OfficeState) (timer : Timer) → Sound K callers state → has_timer_room state timer ≡ true → timer.order ≡ state.next_timer
+    → FitsTimer state.next_actor (state.next_timer + 1) state.actors timer → Sound K callers (with_timer state timer)
+scheduled_sound K callers state timer sound room order fits =
+    let rooms = and_parts (nat_le (length (with_scheduled state.timers timer)) MAX_TIMERS) (nat_lt state.next_timer MAX_NEXT_NUMBER) room in
+    let below_limit : state.next_timer < MAX_NEXT_NUMBER = ltb-true state.next_timer MAX_NEXT_NUMBER rooms.1 in
+    let old = beside_each (FitsTimer state.next_actor state.next_timer state.actors) timer state.timers sound.parts.timers_fit in
+    timers_sound K callers state (with_scheduled state.timers timer) (state.next_timer + 1) sound (record { numbered = omega arith; limit = omega arith })
+    (leb-true (length (with_scheduled state.timers timer)) MAX_TIMERS rooms.0)
+    (each_push (FitsTimer state.next_actor (state.next_timer + 1) state.actors) (beside timer state.timers) timer
+      (each_mono (FitsTimer state.next_actor state.next_timer state.actors) (FitsTimer state.next_actor (state.next_timer + 1) state.actors) (beside timer state.timers)
+      (λ other is. timer_more state.next_actor state.next_actor state.next_timer (state.next_timer + 1) state.actors state.actors other (omega arith) (omega arith) (λ runs_on. runs_on) is) old) fits)
+    (pairs_push (λ (a b : Timer). a.order < b.order) (beside timer state.timers) timer (beside_pairs (λ (a b : Timer). a.order < b.order) timer state.timers sound.parts.timers_rise)
+      (each_mono (FitsTimer state.next_actor state.next_timer state.actors) (λ (other : Timer). other.order < timer.order) (beside timer state.timers) (λ other is. (let given = is.order in omega (arith, given.1))) old))
+    (pairs_push (λ (a b : Timer). AreOfOneId a b → ⊥) (beside timer state.timers) timer (beside_pairs (λ (a b : Timer). AreOfOneId a b → ⊥) timer state.timers sound.parts.timer_ids) (beside_differs timer state.timers))
 
 -- ---- effects
 
@@ -142,7 +182,104 @@ module _ (definitions : OfficeDefinitions) (linked : AreLinked definitions) (cal
       by_receiver (Some receiver) is = by_room receiver (receiver_runs target receiver is) (has_letter_room state 1) refl
 
     scheduled_fits : (id : Option (List ℕ)) (delay : ℕ) (target : To) (event : Value) → IfSome id (λ id. IsTrue (is_name id)) → IsTimed event → MidFits ids (after_schedule n id delay target event state)
-    scheduled_fits id delay target event named timed = ?
+    scheduled_fits id delay target event named timed = by_receiver (receiver_of state n target) refl where
+      by_room : (receiver : ℕ) → runs state.actors receiver ≡ true → (b : Bool) → has_timer_room state (timer_now state n id delay event receiver) ≡ b
+          → MidFits ids (if b then Ok (with_timer state (timer_now state n id delay event receiver)) else Err TimersFull)
+      by_room receiver runs_to true room =
+          let target_record = running state.actors receiver runs_to in
+          record {
+            sound = scheduled_sound (MidKind ids) callers state (timer_now state n id delay event receiver) mid.sound room refl (record {
+              order = (mid.sound.counts.timer.numbered, omega arith);
+              owner = mid.runner;
+              target = given_in state.next_actor state.actors mid.sound.tree receiver target_record.0 target_record.1;
+              id = named;
+              event = timed.well_formed;
+              no_init = timed.no_init;
+            });
+            runner = mid.runner;
+            differ = mid.differ;
+          }
+      by_room receiver runs_to false room = tt
+
+      by_receiver : (o : Option ℕ) → receiver_of state n target ≡ o → MidFits ids (option_map_or (λ (receiver : ℕ). with_timer_if_room state (timer_now state n id delay event receiver)) o (Ok state))
+      by_receiver None is = mid
+      by_receiver (Some receiver) is = by_room receiver (receiver_runs target receiver is) (has_timer_room state (timer_now state n id delay event receiver)) refl
 
     cancelled_fits : (id : List ℕ) → MidSound ids (after_cancel n id state)
     cancelled_fits id = record { sound = fewer_timers_sound (MidKind ids) callers state (λ (timer : Timer). not (has_id n id timer)) mid.sound; runner = mid.runner; differ = mid.differ }
+
+    -- ---- spawn
+
+    abbrev next : ℕ
+    next = state.next_actor
+
+    free_id : (id : List ℕ) → list_any (bytes_eq id) ids ≡ false → AllByRecursion (λ (other : List ℕ). other ≢ id) ids
+    free_id id free = each_free ids free where
+      each_free : (others : List (List ℕ)) → list_any (bytes_eq id) others ≡ false → AllByRecursion (λ (other : List ℕ). other ≢ id) others
+      each_free [] free = tt
+      each_free (other ∷ others) free =
+          let parts = or_parts (bytes_eq id other) (list_any (bytes_eq id) others) free in
+          (λ same. true≢false (sym (bytes_same id other (sym same)) ∙ parts.0), each_free others parts.1)
+
+    abbrev grown : List ℕ → ActorRecord → OfficeState
+    grown id fresh = with_actor (with_record state fresh) n (with_kid id state.next_actor)
+
+    grown_sound : (id : List ℕ) (fresh : ActorRecord) → has_actor_room state ≡ true → is_name_held state fresh.system ≡ false → has_level_below state n ≡ true
+        → fresh.number ≡ state.next_actor → fresh.kids ≡ [] → fresh.parent ≡ Some n → fresh.mailbox ≡ [] → Stands fresh
+        → Sound (Except (MidKind (ids ++ id ∷ [])) state.next_actor (λ a. a ≡ fresh)) callers (grown id fresh)
+    grown_sound id fresh room free level fresh_number fresh_kids fresh_parent empty stands =
+        spawn_sound (MidKind ids) (MidKind (ids ++ id ∷ [])) callers state n id fresh mid.sound room free (sym (within_is state 15 n) ∙ level) mid.runner fresh_number fresh_kids fresh_parent empty stands
+        (λ a differs kind. record { other = kind.other; one = λ same. absurd (differs same) })
+        (λ a seen kind. record {
+          other = λ differs. absurd (differs (look_number number_of state.actors n a seen));
+          one = λ is. (
+            let before = kind.one is in
+            record {
+              same = before.same;
+              no_item = before.no_item;
+              listed = map-append (λ (kid : List ℕ × ℕ). kid.0) a.kids ((id, state.next_actor) ∷ []) ∙ ap (λ (others : List (List ℕ)). others ++ id ∷ []) before.listed;
+              no_init = before.no_init;
+            });
+        })
+
+    grown_seen : (id : List ℕ) (fresh : ActorRecord) → fresh.number ≡ state.next_actor → fresh.kids ≡ [] → fresh.parent ≡ Some n → record_in (grown id fresh).actors state.next_actor ≡ Some fresh
+    grown_seen id fresh fresh_number fresh_kids fresh_parent =
+        let runner = running state.actors n mid.runner in
+        spawned_new state.next_actor state.actors mid.sound.tree mid.sound.counts.actor.numbered n runner.0 id fresh runner.1 runner.2 fresh_number fresh_kids fresh_parent
+
+    grown_runs : (id : List ℕ) (fresh : ActorRecord) → fresh.number ≡ state.next_actor → fresh.kids ≡ [] → fresh.parent ≡ Some n → runs (grown id fresh).actors n ≡ true
+    grown_runs id fresh fresh_number fresh_kids fresh_parent =
+        let runner = running state.actors n mid.runner in
+        let adopt : ActorRecord → ActorRecord = at number_of n (with_kid id state.next_actor) in
+        runs_from (grown id fresh).actors n (adopt runner.0)
+        (spawned_seen state.next_actor state.actors mid.sound.tree mid.sound.counts.actor.numbered n runner.0 id fresh runner.1 runner.2 fresh_number fresh_kids fresh_parent n runner.0 runner.1)
+        (at_same number_of is_active n (with_kid id state.next_actor) (λ a. refl) runner.0 ∙ runner.2)
+        (at_same number_of (λ (z : ActorRecord). is_some z.own) n (with_kid id state.next_actor) (λ a. refl) runner.0 ∙ runner.3)
+
+    grown_room : (id : List ℕ) (fresh : ActorRecord) → fresh.mailbox ≡ [] → has_letter_room state 1 ≡ true → has_letter_room (grown id fresh) 1 ≡ true
+    grown_room id fresh empty room =
+        let rooms = room_of state 1 room in
+        let pushed = sum_push (λ (a : ActorRecord). length a.mailbox) state.actors fresh in
+        let none : length fresh.mailbox ≡ 0 = ap length empty in
+        let same = sum_map_le (λ (a : ActorRecord). length a.mailbox) (at number_of n (with_kid id state.next_actor)) (state.actors ++ fresh ∷ [])
+            (λ a. either_at (λ (z : ActorRecord). length z.mailbox ≤ length a.mailbox) n (with_kid id state.next_actor) a (omega arith) (omega arith)) in
+        room_from (grown id fresh) 1 (omega (arith, rooms.0)) rooms.1
+
+    -- a letter and a child of two records, in either order
+    kid_and_mail : (id : List ℕ) (m : ℕ) (letter : Letter) (actors : List ActorRecord)
+        → map (at number_of n (with_kid id m)) (map (at number_of m (with_mail letter)) actors) ≡ map (at number_of m (with_mail letter)) (map (at number_of n (with_kid id m)) actors)
+    kid_and_mail id m letter [] = refl
+    kid_and_mail id m letter (a ∷ actors) =
+        ap (λ (z : ActorRecord). z ∷ map (at number_of n (with_kid id m)) (map (at number_of m (with_mail letter)) actors)) (by_mail (nat_eq a.number m) refl)
+        ∙ ap (λ (others : List ActorRecord). at number_of m (with_mail letter) (at number_of n (with_kid id m) a) ∷ others) (kid_and_mail id m letter actors) where
+      with_it : (c : Bool) → nat_eq a.number m ≡ true → (if c then with_kid id m (with_mail letter a) else with_mail letter a) ≡ at number_of m (with_mail letter) (if c then with_kid id m a else a)
+      with_it true is = sym (ap (λ (b : Bool). if b then with_mail letter (with_kid id m a) else with_kid id m a) is)
+      with_it false is = sym (ap (λ (b : Bool). if b then with_mail letter a else a) is)
+
+      without_it : (c : Bool) → nat_eq a.number m ≡ false → (if c then with_kid id m a else a) ≡ at number_of m (with_mail letter) (if c then with_kid id m a else a)
+      without_it true is = sym (ap (λ (b : Bool). if b then with_mail letter (with_kid id m a) else with_kid id m a) is)
+      without_it false is = sym (ap (λ (b : Bool). if b then with_mail letter a else a) is)
+
+      by_mail : (b : Bool) → nat_eq a.number m ≡ b → at number_of n (with_kid id m) (if b then with_mail letter a else a) ≡ at number_of m (with_mail letter) (at number_of n (with_kid id m) a)
+      by_mail true is = with_it (nat_eq a.number n) is
+      by_mail false is = without_it (nat_eq a.number n) is
