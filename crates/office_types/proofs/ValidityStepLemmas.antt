@@ -20,11 +20,11 @@ use Rattle.office_types.specs.declared.office.Origin.TheVariants as origin
 use Rattle.office_types.specs.declared.office.Timer.{Timer}
 use Rattle.office_types.specs.declared.outcome.Effect.{Effect}
 use Rattle.office_types.specs.declared.outcome.Effect.TheVariants as effect
-use Rattle.office_types.specs.declared.outcome.FaultName.TheVariants.{LettersFull, TimersFull}
+use Rattle.office_types.specs.declared.outcome.FaultName.TheVariants.{ActorsFull, LettersFull, NameHeld, TimersFull, TooDeep}
 use Rattle.office_types.specs.declared.outcome.Own.{Own}
 use Rattle.office_types.specs.declared.outcome.To.{To}
 use Rattle.office_types.specs.Definitions.{ActorLogic, AreLinked, OfficeDefinitions, nodes_of}
-use Rattle.office_types.specs.Effects.{after_cancel, after_effect, after_effects, after_schedule, after_send, after_spawn, after_stop, child_of, first_letters, fresh_own, fresh_record, has_actor_room, has_level_below, has_timer_room, is_name_held, timer_now, with_child, with_kid, with_logic, with_machine, with_record, with_timer, with_timer_if_room, without_kid}
+use Rattle.office_types.specs.Effects.{after_cancel, after_effect, after_effects, after_schedule, after_send, after_spawn, after_stop, child_of, first_letters, fresh_own, fresh_record, has_actor_room, has_level_below, has_timer_room, is_name_held, timer_now, with_child, with_item, with_kid, with_logic, with_machine, with_record, with_timer, with_timer_if_room, without_kid}
 use Rattle.office_types.specs.Ends.{is_among, removed, subtree_of}
 use Rattle.office_types.specs.Events.{event_type, init_event, init_type, is_reserved}
 use Rattle.office_types.specs.Fitting.{Fitted, ◌>>=◌}
@@ -115,6 +115,36 @@ scheduled_sound K callers state timer sound room order fits =
     (pairs_push (λ (a b : Timer). a.order < b.order) (beside timer state.timers) timer (beside_pairs (λ (a b : Timer). a.order < b.order) timer state.timers sound.parts.timers_rise)
       (each_mono (FitsTimer state.next_actor state.next_timer state.actors) (λ (other : Timer). other.order < timer.order) (beside timer state.timers) (λ other is. (let given = is.order in omega (arith, given.1))) old))
     (pairs_push (λ (a b : Timer). AreOfOneId a b → ⊥) (beside timer state.timers) timer (beside_pairs (λ (a b : Timer). AreOfOneId a b → ⊥) timer state.timers sound.parts.timer_ids) (beside_differs timer state.timers))
+
+-- ---- lists
+
+get_each : {X : Type 0} (P : X → Type 0) (xs : List X) (i : ℕ) (x : X) → AllByRecursion P xs → slice_get xs i ≡ Some x → P x
+get_each P [] i x all is = absurd (cc)
+get_each P (y ∷ xs) zero x all is = let same : y ≡ x = cc in subst P same all.0
+get_each P (y ∷ xs) (suc i) x all is = get_each P xs i x all.1 is
+
+get_within : {X : Type 0} (xs : List X) (i : ℕ) → i < length xs → slice_get xs i ≡ None → ⊥
+get_within [] i within none = absurd (omega arith)
+get_within (x ∷ xs) zero within none = absurd (cc)
+get_within (x ∷ xs) (suc i) within none = get_within xs i (omega arith) none
+
+-- who is among the ids is found
+found_among : (id : List ℕ) (kids : List (List ℕ × ℕ)) → list_any (bytes_eq id) (map (λ (kid : List ℕ × ℕ). kid.0) kids) ≡ true → (x : ℕ) × (lookup (bytes_eq id) kids ≡ Some x)
+found_among id [] is = absurd (true≢false (sym is))
+found_among id (kid ∷ kids) is = by_test (found_among id kids) (bytes_eq id kid.0) is where
+  by_test : (list_any (bytes_eq id) (map (λ (k : List ℕ × ℕ). k.0) kids) ≡ true → (x : ℕ) × (lookup (bytes_eq id) kids ≡ Some x)) → (b : Bool) → (b || list_any (bytes_eq id) (map (λ (k : List ℕ × ℕ). k.0) kids)) ≡ true
+      → (x : ℕ) × (cond b (Some kid.1) (lookup (bytes_eq id) kids) ≡ Some x)
+  by_test rest true is = (kid.1, refl)
+  by_test rest false is = rest is
+
+ids_left : (id : List ℕ) (kids : List (List ℕ × ℕ)) → map (λ (kid : List ℕ × ℕ). kid.0) (filter (λ (kid : List ℕ × ℕ). not (bytes_eq kid.0 id)) kids) ≡ filter (λ (other : List ℕ). not (bytes_eq other id)) (map (λ (kid : List ℕ × ℕ). kid.0) kids)
+ids_left id [] = refl
+ids_left id (kid ∷ kids) = by_test (ids_left id kids) (not (bytes_eq kid.0 id)) where
+  by_test : map (λ (k : List ℕ × ℕ). k.0) (filter (λ (k : List ℕ × ℕ). not (bytes_eq k.0 id)) kids) ≡ filter (λ (other : List ℕ). not (bytes_eq other id)) (map (λ (k : List ℕ × ℕ). k.0) kids) → (b : Bool)
+      → map (λ (k : List ℕ × ℕ). k.0) (cond b (kid ∷ filter (λ (k : List ℕ × ℕ). not (bytes_eq k.0 id)) kids) (filter (λ (k : List ℕ × ℕ). not (bytes_eq k.0 id)) kids))
+      ≡ cond b (kid.0 ∷ filter (λ (other : List ℕ). not (bytes_eq other id)) (map (λ (k : List ℕ × ℕ). k.0) kids)) (filter (λ (other : List ℕ). not (bytes_eq other id)) (map (λ (k : List ℕ × ℕ). k.0) kids))
+  by_test rest true = ap (λ (others : List (List ℕ)). kid.0 ∷ others) rest
+  by_test rest false = rest
 
 -- ---- effects
 
@@ -210,9 +240,6 @@ module _ (definitions : OfficeDefinitions) (linked : AreLinked definitions) (cal
 
     -- ---- spawn
 
-    abbrev next : ℕ
-    next = state.next_actor
-
     free_id : (id : List ℕ) → list_any (bytes_eq id) ids ≡ false → AllByRecursion (λ (other : List ℕ). other ≢ id) ids
     free_id id free = each_free ids free where
       each_free : (others : List (List ℕ)) → list_any (bytes_eq id) others ≡ false → AllByRecursion (λ (other : List ℕ). other ≢ id) others
@@ -283,3 +310,130 @@ module _ (definitions : OfficeDefinitions) (linked : AreLinked definitions) (cal
       by_mail : (b : Bool) → nat_eq a.number m ≡ b → at number_of n (with_kid id m) (if b then with_mail letter a else a) ≡ at number_of m (with_mail letter) (at number_of n (with_kid id m) a)
       by_mail true is = with_it (nat_eq a.number n) is
       by_mail false is = without_it (nat_eq a.number n) is
+
+    machine_spawned : (id : List ℕ) (input : Value) (system : Option (List ℕ)) (machine : ℕ) → machine < length definitions.machines → is_short input ≡ true → IfSome system (λ name. IsTrue (is_name name))
+        → list_any (bytes_eq id) ids ≡ false → is_name_held state system ≡ false → has_actor_room state ≡ true → has_letter_room state 1 ≡ true → has_level_below state n ≡ true
+        → MidSound (ids ++ id ∷ []) (with_actor (with_machine state (origin.Actor n) (Some n) machine input system) n (with_kid id state.next_actor))
+    machine_spawned id input system machine below_count short named free_ids free room letters level =
+        let fresh : ActorRecord = fresh_record state.next_actor (Some n) system (Some (fresh_own machine)) None in
+        let letter : Letter = new_letter (with_record state fresh) (origin.Actor n) (init_event input) in
+        let given : IsGiven state.next_actor n = stepping_given in
+        let sound : Sound (MidKind (ids ++ id ∷ [])) callers (with_letter (grown id fresh) (origin.Actor n) state.next_actor (init_event input)) =
+            begin_sound (MidKind (ids ++ id ∷ [])) callers (grown id fresh) state.next_actor fresh (origin.Actor n) input
+            (grown_sound id fresh room free level refl refl refl refl (stands_fresh state.next_actor (Some n) system (Some (fresh_own machine)) None named))
+            (grown_seen id fresh refl refl refl) refl refl (given.0, omega (arith, given.1)) short (grown_room id fresh refl letters)
+            (record { other = λ differs. kind_begins definitions state.next_actor (Some n) system machine letter below_count (init_begins input); one = λ same. absurd (omega (arith, given.1)) }) in
+        let same : with_letter (grown id fresh) (origin.Actor n) state.next_actor (init_event input) ≡ with_actor (with_machine state (origin.Actor n) (Some n) machine input system) n (with_kid id state.next_actor) =
+            ap (λ (actors : List ActorRecord). record (with_record state fresh) { actors = actors; next_letter = state.next_letter + 1 }) (sym (kid_and_mail id state.next_actor letter (state.actors ++ fresh ∷ []))) in
+        record {
+          sound = subst (Sound (MidKind (ids ++ id ∷ [])) callers) same sound;
+          runner = subst (λ (after : OfficeState). runs after.actors n ≡ true) same (runs_mail letter (grown id fresh).actors state.next_actor n ∙ grown_runs id fresh refl refl refl);
+          differ = pairs_push (λ (a b : List ℕ). a ≢ b) ids id mid.differ (free_id id free_ids);
+        }
+
+    item_spawned : (id src : List ℕ) (input : Value) (system : Option (List ℕ)) → is_short input ≡ true → IfSome system (λ name. IsTrue (is_name name))
+        → list_any (bytes_eq id) ids ≡ false → is_name_held state system ≡ false → has_actor_room state ≡ true → has_level_below state n ≡ true
+        → MidSound (ids ++ id ∷ []) (with_actor (with_item state (Some n) src input system) n (with_kid id state.next_actor))
+    item_spawned id src input system short named free_ids free room level =
+        let item : Item = record { actor = state.next_actor; src = src; input = input } in
+        let fresh : ActorRecord = fresh_record state.next_actor (Some n) system None (Some item) in
+        let given : IsGiven state.next_actor n = stepping_given in
+        let kind : MidKind (ids ++ id ∷ []) fresh = record { other = λ differs. record { number = refl; input = short; kids = refl; letters = refl }; one = λ same. absurd (omega (arith, given.1)) } in
+        record {
+          sound = sound_kinds (Except (MidKind (ids ++ id ∷ [])) state.next_actor (λ a. a ≡ fresh)) (MidKind (ids ++ id ∷ [])) callers (grown id fresh)
+              (λ a is. elim (cases_Bool (nat_eq a.number state.next_actor)) [
+                | inl at_next ↦ subst (MidKind (ids ++ id ∷ [])) (sym (is.one (eqb-true a.number state.next_actor at_next))) kind
+                | inr before ↦ is.other (eqb-false a.number state.next_actor before)
+              ])
+              (grown_sound id fresh room free level refl refl refl refl (stands_fresh state.next_actor (Some n) system None (Some item) named));
+          runner = grown_runs id fresh refl refl refl;
+          differ = pairs_push (λ (a b : List ℕ). a ≢ b) ids id mid.differ (free_id id free_ids);
+        }
+
+    spawned_fits : (id : List ℕ) (src : ℕ) (input : Value) (system : Option (List ℕ)) → IsSpawn definitions ids id src input system → MidFits (ids ++ id ∷ []) (after_spawn definitions n id src input system state)
+    spawned_fits id src input system spawn = by_logic (slice_get definitions.actors src) refl where
+      by_machine : (logic : ActorLogic) → slice_get definitions.actors src ≡ Some logic → is_name_held state system ≡ false → has_actor_room state ≡ true → has_level_below state n ≡ true → (o : Option ℕ) → logic.machine ≡ o
+          → has_letter_room state (option_map_or (λ (machine : ℕ). 1) o 0) ≡ true
+          → MidSound (ids ++ id ∷ []) (with_actor (option_map_or (λ (machine : ℕ). with_machine state (origin.Actor n) (Some n) machine input system) o (with_item state (Some n) logic.name input system)) n (with_kid id state.next_actor))
+      by_machine logic row free room level None is letters = item_spawned id logic.name input system spawn.short spawn.system_name spawn.free free room level
+      by_machine logic row free room level (Some machine) is letters =
+          let fits : IfSome logic.machine (λ m. m < length definitions.machines) =
+              get_each (λ (l : ActorLogic). IfSome l.machine (λ m. m < length definitions.machines)) definitions.actors src logic
+              (recursion_from_All (λ (l : ActorLogic). IfSome l.machine (λ m. m < length definitions.machines)) definitions.actors linked) row in
+          let below_count : machine < length definitions.machines = subst (λ (o : Option ℕ). IfSome o (λ m. m < length definitions.machines)) is fits in
+          machine_spawned id input system machine below_count spawn.short spawn.system_name spawn.free free room letters level
+
+      by_level : (logic : ActorLogic) → slice_get definitions.actors src ≡ Some logic → is_name_held state system ≡ false → has_actor_room state ≡ true → has_letter_room state (first_letters logic) ≡ true → (b : Bool) → has_level_below state n ≡ b
+          → MidFits (ids ++ id ∷ []) (if not b then Err TooDeep else Ok (with_actor (with_logic state n logic input system) n (with_kid id state.next_actor)))
+      by_level logic row free room letters true level = by_machine logic row free room level logic.machine refl letters
+      by_level logic row free room letters false level = tt
+
+      by_letters : (logic : ActorLogic) → slice_get definitions.actors src ≡ Some logic → is_name_held state system ≡ false → has_actor_room state ≡ true → (b : Bool) → has_letter_room state (first_letters logic) ≡ b
+          → MidFits (ids ++ id ∷ []) (if not b then Err LettersFull else if not (has_level_below state n) then Err TooDeep else Ok (with_actor (with_logic state n logic input system) n (with_kid id state.next_actor)))
+      by_letters logic row free room true letters = by_level logic row free room letters (has_level_below state n) refl
+      by_letters logic row free room false letters = tt
+
+      by_room : (logic : ActorLogic) → slice_get definitions.actors src ≡ Some logic → is_name_held state system ≡ false → (b : Bool) → has_actor_room state ≡ b
+          → MidFits (ids ++ id ∷ []) (if not b then Err ActorsFull else if not (has_letter_room state (first_letters logic)) then Err LettersFull else if not (has_level_below state n) then Err TooDeep
+            else Ok (with_actor (with_logic state n logic input system) n (with_kid id state.next_actor)))
+      by_room logic row free true room = by_letters logic row free room (has_letter_room state (first_letters logic)) refl
+      by_room logic row free false room = tt
+
+      by_name : (logic : ActorLogic) → slice_get definitions.actors src ≡ Some logic → (b : Bool) → is_name_held state system ≡ b
+          → MidFits (ids ++ id ∷ []) (if b then Err NameHeld else if not (has_actor_room state) then Err ActorsFull else if not (has_letter_room state (first_letters logic)) then Err LettersFull else if not (has_level_below state n) then Err TooDeep
+            else Ok (with_actor (with_logic state n logic input system) n (with_kid id state.next_actor)))
+      by_name logic row true free = tt
+      by_name logic row false free = by_room logic row free (has_actor_room state) refl
+
+      by_logic : (o : Option ActorLogic) → slice_get definitions.actors src ≡ o → MidFits (ids ++ id ∷ []) (option_map_or (λ (logic : ActorLogic). with_child n id logic input system state) o (Ok state))
+      by_logic None row = absurd (get_within definitions.actors src spawn.row row)
+      by_logic (Some logic) row = by_name logic row (is_name_held state system) refl
+
+    -- ---- stop
+
+    stopped_mid : (id : List ℕ) → list_any (bytes_eq id) ids ≡ true → MidSound (filter (λ (other : List ℕ). not (bytes_eq other id)) ids) (after_stop n id state)
+    unfolding removed subtree_of
+    stopped_mid id held =
+        let runner = running state.actors n mid.runner in
+        let at_n : runner.0.number ≡ n = look_number number_of state.actors n runner.0 runner.1 in
+        let before = (each_look number_of (MidKind ids) state.actors mid.sound.kinds n runner.0 runner.1).one at_n in
+        let found = found_among id runner.0.kids (ap (list_any (bytes_eq id)) before.listed ∙ held) in
+        let differ : Pairs (λ (a b : List ℕ × ℕ). a.0 ≢ b.0) runner.0.kids =
+            map_pairs (λ (a b : List ℕ). a ≢ b) (λ (kid : List ℕ × ℕ). kid.0) runner.0.kids (subst (Pairs (λ (a b : List ℕ). a ≢ b)) (sym before.listed) mid.differ) in
+        let child : child_of state n id ≡ Some found.0 = ap (option_and_then (λ (actor : ActorRecord). lookup (bytes_eq id) actor.kids)) runner.1 ∙ found.1 in
+        let left : List (List ℕ) = filter (λ (other : List ℕ). not (bytes_eq other id)) ids in
+        let stopped : MidSound left (with_actor (removed found.0 state) n (without_kid id)) = record {
+          sound = stop_sound (MidKind ids) (MidKind left) callers state n id found.0 runner.0 mid.sound runner.1 differ found.1
+              (λ a differs kind. record { other = kind.other; one = λ same. absurd (differs same) })
+              (λ a seen kind. record {
+                other = λ differs. absurd (differs (look_number number_of state.actors n a seen));
+                one = λ is. (
+                  let was = kind.one is in
+                  record { same = was.same; no_item = was.no_item; listed = ids_left id a.kids ∙ ap (filter (λ (other : List ℕ). not (bytes_eq other id))) was.listed; no_init = was.no_init });
+              });
+          runner = runs_from (with_actor (removed found.0 state) n (without_kid id)).actors n (at number_of n (without_kid id) runner.0)
+              (stopped_seen state.next_actor state.actors mid.sound.tree n runner.0 id found.0 runner.1 differ found.1 n runner.0 runner.1
+                (parent_stays state.next_actor state.actors mid.sound.tree n runner.0 id found.0 runner.1 differ found.1))
+              (at_same number_of is_active n (without_kid id) (λ a. refl) runner.0 ∙ runner.2)
+              (at_same number_of (λ (z : ActorRecord). is_some z.own) n (without_kid id) (λ a. refl) runner.0 ∙ runner.3);
+          differ = pairs_filter (λ (a b : List ℕ). a ≢ b) (λ (other : List ℕ). not (bytes_eq other id)) ids mid.differ;
+        } in
+        subst (λ (o : Option ℕ). MidSound left (option_map_or (λ (c : ℕ). with_actor (removed c state) n (without_kid id)) o state)) (sym child) stopped
+
+    effect_fits : (what : Effect) → IsAllowedEffect definitions ids what → MidFits (children_after ids what) (after_effect definitions n what state)
+    effect_fits (effect.Send target event) allowed = sent_fits target event allowed
+    effect_fits (effect.Schedule id delay target event) allowed = scheduled_fits id delay target event allowed.0 allowed.2
+    effect_fits (effect.Cancel id) allowed = cancelled_fits id
+    effect_fits (effect.Spawn id src input system) allowed = spawned_fits id src input system allowed
+    effect_fits (effect.Stop id) allowed = stopped_mid id allowed
+
+  -- effects one after the other
+  pub effects_fit : (effects : List Effect) (ids : List (List ℕ)) (state : OfficeState) → MidSound ids state → AreAllowedEffects definitions ids effects → MidFits (fold children_after ids effects) (after_effects definitions n effects state)
+  unfolding after_effects
+  effects_fit [] ids state mid allowed = mid
+  effects_fit (first ∷ others) ids state mid allowed =
+      next_fits (after_effect definitions n first state) (effect_fits ids state mid first allowed.0) (λ after is. effects_fit others (children_after ids first) after is allowed.1) where
+    next_fits : (x : Fitted) → MidFits (children_after ids first) x → ((after : OfficeState) → MidSound (children_after ids first) after → MidFits (fold children_after (children_after ids first) others) (after_effects definitions n others after))
+        → MidFits (fold children_after (children_after ids first) others) (x >>= after_effects definitions n others)
+    next_fits (Ok after) is rest = rest after is
+    next_fits (Err name) is rest = tt
