@@ -22,3 +22,4 @@ mod ValidityKindLemmas
 mod ValidityCallerLemmas
 mod ValidityDecisionLemmas
 mod ValidityStepLemmas
+mod ValidityTookLemmas

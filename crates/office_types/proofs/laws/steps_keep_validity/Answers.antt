@@ -1,5 +1,5 @@
-use Rattle.office_types.proofs.ValidityStepLemmas.{sound_kinds}
+use Rattle.office_types.proofs.ValidityTookLemmas.{steps_keep_validity}
 use Rattle.office_types.proofs.laws.steps_keep_validity.Goals as goal
 
 pub returns : goal.returns
-returns c = ?
+returns c = steps_keep_validity
