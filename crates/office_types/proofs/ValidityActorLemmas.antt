@@ -25,7 +25,6 @@ use Rattle.office_types.proofs.ValidityStopLemmas.{tree_stop}
 use Rattle.office_types.proofs.ValidityPartLemmas.{FitsTimer, Stands, running, runs}
 use Rattle.office_types.proofs.ValidityEndLemmas.{end_cases, fold_without, mailbox_after, number_after, parts_end, parts_gone, parts_push, stays_after}
 use Rattle.office_types.proofs.ValidityLemmas.{Counts, Sound}
-
 use Rattle.office_types.proofs.ValidityChangeLemmas.{Except, active_at_le, either_at, kinds_push, parts_quiet}
 
 -- ---- new actors
@@ -38,14 +37,14 @@ new_counts callers state fresh empty room counts =
       letter = counts.letter;
       timer = counts.timer;
       active = (
-        let few : active_actors state < MAX_ACTIVE_ACTORS = ltb-true (active_actors state) MAX_ACTIVE_ACTORS rooms.0 in
-        let one_more = passing_push_le is_active state.actors fresh in
-        omega arith);
+          let few : active_actors state < MAX_ACTIVE_ACTORS = ltb-true (active_actors state) MAX_ACTIVE_ACTORS rooms.0 in
+          let one_more = passing_push_le is_active state.actors fresh in
+          omega arith);
       waiting = (
-        let few : waiting_letters state ≤ MAX_LETTERS = counts.waiting in
-        let none : length fresh.mailbox ≡ 0 = ap length empty in
-        let same = sum_push (λ (a : ActorRecord). length a.mailbox) state.actors fresh in
-        omega arith);
+          let few : waiting_letters state ≤ MAX_LETTERS = counts.waiting in
+          let none : length fresh.mailbox ≡ 0 = ap length empty in
+          let same = sum_push (λ (a : ActorRecord). length a.mailbox) state.actors fresh in
+          omega arith);
       standing = counts.standing;
       moment = counts.moment;
       entries = counts.entries;
@@ -83,7 +82,7 @@ spawn_sound K K' callers state n id fresh sound room free level runner fresh_num
     let parent = running state.actors n runner in
     let given : n < next = (given_in next state.actors sound.tree n parent.0 parent.1).1 in
     let same_waiting = sum_map_le (λ (a : ActorRecord). length a.mailbox) (at number_of n adopt) (state.actors ++ fresh ∷ [])
-        (λ a. either_at (λ (z : ActorRecord). length z.mailbox ≤ length a.mailbox) n adopt a (omega arith) (omega arith)) in
+    (λ a. either_at (λ (z : ActorRecord). length z.mailbox ≤ length a.mailbox) n adopt a (omega arith) (omega arith)) in
     let pushed = parts_push next state.next_letter state.next_timer state.actors state.timers state.names fresh empty stands (name_free state fresh.system free) sound.parts in
     let names' : List (List ℕ × ℕ) = option_map_or (λ (name : List ℕ). with_holder state.names name fresh.number) fresh.system state.names in
     record {
@@ -106,14 +105,14 @@ spawn_sound K K' callers state n id fresh sound room free level runner fresh_num
           (kinds_push K next state.actors fresh sound.tree fresh_number sound.kinds)
           (λ a differs kind. record { other = λ old. others a differs (kind.other old); one = kind.one })
           (λ a seen kind. (
-            let at_n : a.number ≡ n = look_number number_of (state.actors ++ fresh ∷ []) n a seen in
-            record { other = λ old. target a (old_seen a seen) (kind.other old); one = λ new. absurd (omega arith) }));
+          let at_n : a.number ≡ n = look_number number_of (state.actors ++ fresh ∷ []) n a seen in
+          record { other = λ old. target a (old_seen a seen) (kind.other old); one = λ new. absurd (omega arith) }));
     } where
-  old_seen : (a : ActorRecord) → record_in (state.actors ++ fresh ∷ []) n ≡ Some a → record_in state.actors n ≡ Some a
-  old_seen a seen =
-      let parent = running state.actors n runner in
-      let before : record_in (state.actors ++ fresh ∷ []) n ≡ Some parent.0 = look_push number_of state.actors fresh n ∙ ap (λ (o : Option ActorRecord). option_or o (record_in (fresh ∷ []) n)) parent.1 in
-      parent.1 ∙ sym before ∙ seen
+      old_seen : (a : ActorRecord) → record_in (state.actors ++ fresh ∷ []) n ≡ Some a → record_in state.actors n ≡ Some a
+      old_seen a seen =
+          let parent = running state.actors n runner in
+          let before : record_in (state.actors ++ fresh ∷ []) n ≡ Some parent.0 = look_push number_of state.actors fresh n ∙ ap (λ (o : Option ActorRecord). option_or o (record_in (fresh ∷ []) n)) parent.1 in
+          parent.1 ∙ sym before ∙ seen
 
 -- ---- a child is stopped
 
@@ -131,17 +130,17 @@ stop_sound K K' callers state n id x parent sound seen differ found others targe
     let left : List ActorRecord = filter (λ (a : ActorRecord). not (is_among gone a.number)) state.actors in
     let fewer_letters = sum_filter_le (λ (a : ActorRecord). length a.mailbox) (λ (a : ActorRecord). not (is_among gone a.number)) state.actors in
     let same_letters = sum_map_le (λ (a : ActorRecord). length a.mailbox) (at number_of n (without_kid id)) left
-        (λ a. either_at (λ (z : ActorRecord). length z.mailbox ≤ length a.mailbox) n (without_kid id) a (omega arith) (omega arith)) in
+    (λ a. either_at (λ (z : ActorRecord). length z.mailbox ≤ length a.mailbox) n (without_kid id) a (omega arith) (omega arith)) in
     record {
       counts = record {
         actor = sound.counts.actor;
         letter = sound.counts.letter;
         timer = sound.counts.timer;
         active = (
-          let few : active_actors state ≤ MAX_ACTIVE_ACTORS = sound.counts.active in
-          let fewer = active_at_le n (without_kid id) left (λ a. refl) in
-          let kept = passing_filter_le is_active (λ (a : ActorRecord). not (is_among gone a.number)) state.actors in
-          omega arith);
+            let few : active_actors state ≤ MAX_ACTIVE_ACTORS = sound.counts.active in
+            let fewer = active_at_le n (without_kid id) left (λ a. refl) in
+            let kept = passing_filter_le is_active (λ (a : ActorRecord). not (is_among gone a.number)) state.actors in
+            omega arith);
         waiting = (let few : waiting_letters state ≤ MAX_LETTERS = sound.counts.waiting in omega arith);
         standing = (let few : length state.timers ≤ MAX_TIMERS = sound.counts.standing in omega (arith, timers_fewer gone state.timers));
         moment = sound.counts.moment;
@@ -155,11 +154,11 @@ stop_sound K K' callers state n id x parent sound seen differ found others targe
       kinds = each_at number_of K K' n (without_kid id) left (pairs_filter (λ (y z : ActorRecord). y.number < z.number) (λ (a : ActorRecord). not (is_among gone a.number)) state.actors sound.tree.rise)
           (each_filter K (λ (a : ActorRecord). not (is_among gone a.number)) state.actors sound.kinds) others (λ a there. target a (left_seen a there));
     } where
-  left_seen : (a : ActorRecord) → record_in (filter (λ (z : ActorRecord). not (is_among (below state.actors (x ∷ [])) z.number)) state.actors) n ≡ Some a → record_in state.actors n ≡ Some a
-  left_seen a there = by_test (is_among (below state.actors (x ∷ [])) n) (sym (look_filter number_of (λ m. not (is_among (below state.actors (x ∷ [])) m)) state.actors n) ∙ there) where
-    by_test : (b : Bool) → (if not b then record_in state.actors n else None) ≡ Some a → record_in state.actors n ≡ Some a
-    by_test true is = absurd (cc)
-    by_test false is = is
+      left_seen : (a : ActorRecord) → record_in (filter (λ (z : ActorRecord). not (is_among (below state.actors (x ∷ [])) z.number)) state.actors) n ≡ Some a → record_in state.actors n ≡ Some a
+      left_seen a there = by_test (is_among (below state.actors (x ∷ [])) n) (sym (look_filter number_of (λ m. not (is_among (below state.actors (x ∷ [])) m)) state.actors n) ∙ there) where
+        by_test : (b : Bool) → (if not b then record_in state.actors n else None) ≡ Some a → record_in state.actors n ≡ Some a
+        by_test true is = absurd (cc)
+        by_test false is = is
 
 -- ---- an actor ends
 
@@ -180,13 +179,13 @@ end_sound K K' callers state n end sound same_number same_parent same_kids inact
         letter = sound.counts.letter;
         timer = sound.counts.timer;
         active = (
-          let few : active_actors state ≤ MAX_ACTIVE_ACTORS = sound.counts.active in
-          let fewer = passing_map_le is_active f state.actors (λ a is. was_active gone a is) in
-          omega arith);
+            let few : active_actors state ≤ MAX_ACTIVE_ACTORS = sound.counts.active in
+            let fewer = passing_map_le is_active f state.actors (λ a is. was_active gone a is) in
+            omega arith);
         waiting = (
-          let few : waiting_letters state ≤ MAX_LETTERS = sound.counts.waiting in
-          let fewer = sum_map_le (λ (a : ActorRecord). length a.mailbox) f state.actors (mailbox_after gone n end same_number empty unnamed itself) in
-          omega arith);
+            let few : waiting_letters state ≤ MAX_LETTERS = sound.counts.waiting in
+            let fewer = sum_map_le (λ (a : ActorRecord). length a.mailbox) f state.actors (mailbox_after gone n end same_number empty unnamed itself) in
+            omega arith);
         standing = (let few : length state.timers ≤ MAX_TIMERS = sound.counts.standing in omega (arith, timers_fewer gone state.timers));
         moment = sound.counts.moment;
         entries = sound.counts.entries;
@@ -196,33 +195,33 @@ end_sound K K' callers state n end sound same_number same_parent same_kids inact
           (λ a. end_cases (λ (z : ActorRecord). z.parent ≡ a.parent) gone n end a (λ is. same_parent a) (λ other below active. refl) (λ other below ended. refl) (λ other beside. refl))
           (λ a. end_cases (λ (z : ActorRecord). z.kids ≡ a.kids) gone n end a (λ is. same_kids a) (λ other below active. refl) (λ other below ended. refl) (λ other beside. refl))
           (λ m a p b seen parent above active. (
-            let child = sound.tree.parents m a p seen parent in
-            let same_record : Some child.above ≡ Some b = sym child.seen ∙ above in
-            let same : child.above ≡ b = cc in
-            let at_m : a.number ≡ m = look_number number_of state.actors m a seen in
-            let at_p : b.number ≡ p = look_number number_of state.actors p b above in
-            let beside : is_among gone a.number ≡ false = active_beside gone itself a active in
-            ap is_active (stays_after gone n end same_number empty unnamed itself b (ap (is_among gone) at_p ∙ up_beside m a p seen parent (ap (is_among gone) (sym at_m) ∙ beside)))
-            ∙ ap is_active (sym same) ∙ child.active (was_active gone a active)));
+          let child = sound.tree.parents m a p seen parent in
+          let same_record : Some child.above ≡ Some b = sym child.seen ∙ above in
+          let same : child.above ≡ b = cc in
+          let at_m : a.number ≡ m = look_number number_of state.actors m a seen in
+          let at_p : b.number ≡ p = look_number number_of state.actors p b above in
+          let beside : is_among gone a.number ≡ false = active_beside gone itself a active in
+          ap is_active (stays_after gone n end same_number empty unnamed itself b (ap (is_among gone) at_p ∙ up_beside m a p seen parent (ap (is_among gone) (sym at_m) ∙ beside)))
+          ∙ ap is_active (sym same) ∙ child.active (was_active gone a active)));
       parts = parts_end gone n end same_number empty unnamed itself state.next_actor state.next_letter state.next_timer state.actors state.timers state.names sound.tree.rise stands_end sound.parts;
       kinds = each_map K' f state.actors (look_each number_of (λ (a : ActorRecord). K' (f a)) state.actors sound.tree.rise (λ m a seen. (
-        let kind : K a = each_look number_of K state.actors sound.kinds m a seen in
-        end_cases K' gone n end a (λ is. target a (ap (record_in state.actors) (sym is ∙ look_number number_of state.actors m a seen) ∙ seen) kind)
-            (λ other below active. stops a other active kind) (λ other below ended. others a other kind) (λ other beside. others a other kind))));
+          let kind : K a = each_look number_of K state.actors sound.kinds m a seen in
+          end_cases K' gone n end a (λ is. target a (ap (record_in state.actors) (sym is ∙ look_number number_of state.actors m a seen) ∙ seen) kind)
+          (λ other below active. stops a other active kind) (λ other below ended. others a other kind) (λ other beside. others a other kind))));
     } where
-  was_active : (gone : List ℕ) (a : ActorRecord) → is_active (record_after_end gone n end a) ≡ true → is_active a ≡ true
-  was_active gone a = end_cases (λ (z : ActorRecord). is_active z ≡ true → is_active a ≡ true) gone n end a
-      (λ is active. absurd (true≢false (sym active ∙ inactive a))) (λ other below active is. active) (λ other below ended is. is) (λ other beside is. is)
+      was_active : (gone : List ℕ) (a : ActorRecord) → is_active (record_after_end gone n end a) ≡ true → is_active a ≡ true
+      was_active gone a = end_cases (λ (z : ActorRecord). is_active z ≡ true → is_active a ≡ true) gone n end a
+          (λ is active. absurd (true≢false (sym active ∙ inactive a))) (λ other below active is. active) (λ other below ended is. is) (λ other beside is. is)
 
-  active_beside : (gone : List ℕ) → is_among gone n ≡ true → (a : ActorRecord) → is_active (record_after_end gone n end a) ≡ true → is_among gone a.number ≡ false
-  active_beside gone itself a = end_cases (λ (z : ActorRecord). is_active z ≡ true → is_among gone a.number ≡ false) gone n end a
-      (λ is active. absurd (true≢false (sym active ∙ inactive a))) (λ other below active is. absurd (true≢false (sym is))) (λ other below ended is. absurd (true≢false (sym is ∙ ended))) (λ other beside is. beside)
+      active_beside : (gone : List ℕ) → is_among gone n ≡ true → (a : ActorRecord) → is_active (record_after_end gone n end a) ≡ true → is_among gone a.number ≡ false
+      active_beside gone itself a = end_cases (λ (z : ActorRecord). is_active z ≡ true → is_among gone a.number ≡ false) gone n end a
+          (λ is active. absurd (true≢false (sym active ∙ inactive a))) (λ other below active is. absurd (true≢false (sym is))) (λ other below ended is. absurd (true≢false (sym is ∙ ended))) (λ other beside is. beside)
 
-  up_beside : (m : ℕ) (a : ActorRecord) (p : ℕ) → record_in state.actors m ≡ Some a → a.parent ≡ Some p → is_among (below state.actors (n ∷ [])) m ≡ false → is_among (below state.actors (n ∷ [])) p ≡ false
-  up_beside m a p seen parent kept = elim (cases_Bool (is_among (below state.actors (n ∷ [])) p)) [
-    | inl is ↦ absurd (true≢false (sym (below_closed state.actors (n ∷ []) m p a sound.tree.rise (parents_smaller state.next_actor state.actors sound.tree) seen parent is) ∙ kept))
-    | inr is ↦ is
-  ]
+      up_beside : (m : ℕ) (a : ActorRecord) (p : ℕ) → record_in state.actors m ≡ Some a → a.parent ≡ Some p → is_among (below state.actors (n ∷ [])) m ≡ false → is_among (below state.actors (n ∷ [])) p ≡ false
+      up_beside m a p seen parent kept = elim (cases_Bool (is_among (below state.actors (n ∷ [])) p)) [
+        | inl is ↦ absurd (true≢false (sym (below_closed state.actors (n ∷ []) m p a sound.tree.rise (parents_smaller state.next_actor state.actors sound.tree) seen parent is) ∙ kept))
+        | inr is ↦ is
+      ]
 
 -- ---- timers and the moment
 

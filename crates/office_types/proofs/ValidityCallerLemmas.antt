@@ -101,11 +101,11 @@ decidable state request none =
     let after_entries = both_none (entries_row state) None after_replies.1 in
     record {
       callers = λ is. (
-        let fails : (is_none (caller_of state request.caller) && nat_le MAX_CALLERS (length state.callers)) ≡ false = test_fails _ 429 word.Callers MAX_CALLERS after_callers.0 in
-        elim (and_cases (is_none (caller_of state request.caller)) (nat_le MAX_CALLERS (length state.callers)) fails) [
-          | inl other ↦ absurd (true≢false (sym is ∙ other))
-          | inr less ↦ leb-false MAX_CALLERS (length state.callers) less
-        ]);
+          let fails : (is_none (caller_of state request.caller) && nat_le MAX_CALLERS (length state.callers)) ≡ false = test_fails _ 429 word.Callers MAX_CALLERS after_callers.0 in
+          elim (and_cases (is_none (caller_of state request.caller)) (nat_le MAX_CALLERS (length state.callers)) fails) [
+            | inl other ↦ absurd (true≢false (sym is ∙ other))
+            | inr less ↦ leb-false MAX_CALLERS (length state.callers) less
+          ]);
       replies = leb-false MAX_REPLIES (sum_by (λ (caller : Caller). length caller.replies) state.callers) (test_fails _ 429 word.Replies MAX_REPLIES after_replies.0);
       entries = leb-false MAX_ENTRIES state.entries (test_fails _ 429 word.Entries MAX_ENTRIES after_entries.0);
     }
@@ -151,8 +151,12 @@ module _ (name : List ℕ) (reply : Reply) where
     by_name : sum_by (λ (other : Caller). length other.replies) (with_reply name reply callers) ≡ sum_by (λ (other : Caller). length other.replies) callers + 1 → (b : Bool)
         → sum_by (λ (other : Caller). length other.replies) (if b then record { name = caller.name; replies = caller.replies ++ reply ∷ [] } ∷ callers else caller ∷ with_reply name reply callers)
         ≡ sum_by (λ (other : Caller). length other.replies) (caller ∷ callers) + 1
-    by_name rest true = omega (arith, sum_by-cons (λ (other : Caller). length other.replies) caller callers,
-      sum_by-cons (λ (other : Caller). length other.replies) (record { name = caller.name; replies = caller.replies ++ reply ∷ [] }) callers, length-append caller.replies (reply ∷ []))
+    by_name rest true = omega (
+      arith,
+      sum_by-cons (λ (other : Caller). length other.replies) caller callers,
+      sum_by-cons (λ (other : Caller). length other.replies) (record { name = caller.name; replies = caller.replies ++ reply ∷ [] }) callers,
+      length-append caller.replies (reply ∷ []),
+    )
     by_name rest false = omega (arith, sum_by-cons (λ (other : Caller). length other.replies) caller callers, sum_by-cons (λ (other : Caller). length other.replies) caller (with_reply name reply callers))
 
   -- one caller more only where it is new

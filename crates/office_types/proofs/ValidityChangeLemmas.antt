@@ -31,10 +31,10 @@ pub tree_at : (next : ℕ) (actors : List ActorRecord) → Tree next actors → 
 tree_at next actors tree n change same_number same_parent same_kids same_active =
     tree_map next actors tree (at number_of n change) (at_number number_of n change same_number) (at_same number_of (λ (z : ActorRecord). z.parent) n change same_parent) (at_same number_of (λ (z : ActorRecord). z.kids) n change same_kids)
     (λ m a p b seen parent above active. (
-      let child = tree.parents m a p seen parent in
-      let same_record : Some child.above ≡ Some b = sym child.seen ∙ above in
-      let same : child.above ≡ b = cc in
-      at_same number_of is_active n change same_active b ∙ ap is_active (sym same) ∙ child.active (sym (at_same number_of is_active n change same_active a) ∙ active)))
+    let child = tree.parents m a p seen parent in
+    let same_record : Some child.above ≡ Some b = sym child.seen ∙ above in
+    let same : child.above ≡ b = cc in
+    at_same number_of is_active n change same_active b ∙ ap is_active (sym same) ∙ child.active (sym (at_same number_of is_active n change same_active a) ∙ active)))
 
 pub active_at_le : (n : ℕ) (change : ActorRecord → ActorRecord) (actors : List ActorRecord) → ((a : ActorRecord) → is_active (change a) ≡ is_active a)
     → length (filter is_active (map (at number_of n change) actors)) ≤ length (filter is_active actors)
@@ -65,24 +65,24 @@ letter_sound K K' callers state from n event sound room fits is_sent runner othe
     let letter : Letter = new_letter state from event in
     let rooms = and_parts (nat_le (waiting_letters state + 1) MAX_LETTERS) (nat_le (state.next_letter + 1) MAX_NEXT_NUMBER) room in
     record {
-  counts = record {
-    actor = sound.counts.actor;
-    letter = record { numbered = omega arith; limit = leb-true (state.next_letter + 1) MAX_NEXT_NUMBER rooms.1 };
-    timer = sound.counts.timer;
-    active = (let fewer = active_at_le n (with_mail letter) state.actors (λ a. refl) in let few : active_actors state ≤ MAX_ACTIVE_ACTORS = sound.counts.active in omega arith);
-    waiting = (
-      let more = sum_at_le number_of (λ (a : ActorRecord). length a.mailbox) 1 n (with_mail letter) state.actors sound.tree.rise (λ a. omega (arith, length-append a.mailbox (letter ∷ []))) in
-      let few : waiting_letters state + 1 ≤ MAX_LETTERS = leb-true (waiting_letters state + 1) MAX_LETTERS rooms.0 in
-      omega arith);
-    standing = sound.counts.standing;
-    moment = sound.counts.moment;
-    entries = sound.counts.entries;
-    same_callers = sound.counts.same_callers;
-  };
-  tree = tree_at state.next_actor state.actors sound.tree n (with_mail letter) (λ a. refl) (λ a. refl) (λ a. refl) (λ a. refl);
-  parts = parts_letter state.next_actor state.next_letter state.next_timer state.actors state.timers state.names n letter sound.counts.letter.numbered refl fits is_sent sound.tree.rise runner sound.parts;
-  kinds = each_at number_of K K' n (with_mail letter) state.actors sound.tree.rise sound.kinds others target;
-}
+      counts = record {
+        actor = sound.counts.actor;
+        letter = record { numbered = omega arith; limit = leb-true (state.next_letter + 1) MAX_NEXT_NUMBER rooms.1 };
+        timer = sound.counts.timer;
+        active = (let fewer = active_at_le n (with_mail letter) state.actors (λ a. refl) in let few : active_actors state ≤ MAX_ACTIVE_ACTORS = sound.counts.active in omega arith);
+        waiting = (
+            let more = sum_at_le number_of (λ (a : ActorRecord). length a.mailbox) 1 n (with_mail letter) state.actors sound.tree.rise (λ a. omega (arith, length-append a.mailbox (letter ∷ []))) in
+            let few : waiting_letters state + 1 ≤ MAX_LETTERS = leb-true (waiting_letters state + 1) MAX_LETTERS rooms.0 in
+            omega arith);
+        standing = sound.counts.standing;
+        moment = sound.counts.moment;
+        entries = sound.counts.entries;
+        same_callers = sound.counts.same_callers;
+      };
+      tree = tree_at state.next_actor state.actors sound.tree n (with_mail letter) (λ a. refl) (λ a. refl) (λ a. refl) (λ a. refl);
+      parts = parts_letter state.next_actor state.next_letter state.next_timer state.actors state.timers state.names n letter sound.counts.letter.numbered refl fits is_sent sound.tree.rise runner sound.parts;
+      kinds = each_at number_of K K' n (with_mail letter) state.actors sound.tree.rise sound.kinds others target;
+    }
 
 -- ---- the head letter out, another own part in
 
@@ -122,7 +122,7 @@ pub head_sound : (K K' : ActorRecord → Type 0) (callers : List Caller) (state 
     → ((a : ActorRecord) → record_in state.actors n ≡ Some a → K a → K' (record a { mailbox = drop 1 a.mailbox })) → Sound K' callers (without_head state n)
 head_sound K K' callers state n sound others target =
     let shorter = sum_map_le (λ (a : ActorRecord). length a.mailbox) (at number_of n (λ (z : ActorRecord). record z { mailbox = drop 1 z.mailbox })) state.actors
-        (λ a. either_at (λ (z : ActorRecord). length z.mailbox ≤ length a.mailbox) n (λ (z : ActorRecord). record z { mailbox = drop 1 z.mailbox }) a (shorter_head a.mailbox) (omega arith)) in
+    (λ a. either_at (λ (z : ActorRecord). length z.mailbox ≤ length a.mailbox) n (λ (z : ActorRecord). record z { mailbox = drop 1 z.mailbox }) a (shorter_head a.mailbox) (omega arith)) in
     record {
       counts = record {
         actor = sound.counts.actor;
@@ -173,7 +173,7 @@ pub own_sound : (K K' : ActorRecord → Type 0) (callers : List Caller) (state :
     → ((a : ActorRecord) → record_in state.actors n ≡ Some a → K a → K' (record a { own = Some own })) → Sound K' callers (with_own n own state)
 own_sound K K' callers state n own sound others target =
     let same_waiting = sum_map_le (λ (a : ActorRecord). length a.mailbox) (at number_of n (λ (z : ActorRecord). record z { own = Some own })) state.actors
-        (λ a. either_at (λ (z : ActorRecord). length z.mailbox ≤ length a.mailbox) n (λ (z : ActorRecord). record z { own = Some own }) a (omega arith) (omega arith)) in
+    (λ a. either_at (λ (z : ActorRecord). length z.mailbox ≤ length a.mailbox) n (λ (z : ActorRecord). record z { own = Some own }) a (omega arith) (omega arith)) in
     record {
       counts = record {
         actor = sound.counts.actor;

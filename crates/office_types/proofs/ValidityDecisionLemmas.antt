@@ -54,9 +54,9 @@ module _ (K : ActorRecord → Type 0) (callers : List Caller) (state : OfficeSta
       letter_sound (Except K next (λ a. a ≡ fresh)) K callers state from next (init_event input) sound room fits (init_is_event input short) (runs_from state.actors next fresh seen active own)
       (λ a differs kind. kind.other differs)
       (λ a there kind. (
-        let same_record : Some fresh ≡ Some a = sym seen ∙ there in
-        let same : fresh ≡ a = cc in
-        subst (λ (z : ActorRecord). K (with_mail (new_letter state from (init_event input)) z)) same begun))
+      let same_record : Some fresh ≡ Some a = sym seen ∙ there in
+      let same : fresh ≡ a = cc in
+      subst (λ (z : ActorRecord). K (with_mail (new_letter state from (init_event input)) z)) same begun))
 
 -- ---- start
 
@@ -87,8 +87,8 @@ module _ (definitions : OfficeDefinitions) (callers : List Caller) (state : Offi
       let next : ℕ = state.next_actor in
       let fresh : ActorRecord = fresh_record next None system (Some (fresh_own machine)) None in
       let seen : record_in (state.actors ++ fresh ∷ []) next ≡ Some fresh =
-          look_push number_of state.actors fresh next ∙ ap (λ (o : Option ActorRecord). option_or o (record_in (fresh ∷ []) next)) (none_from_next next state.actors sound.tree next (omega arith))
-          ∙ ap (λ (b : Bool). cond b (Some fresh) None) (eq-eqb next next refl) in
+      look_push number_of state.actors fresh next ∙ ap (λ (o : Option ActorRecord). option_or o (record_in (fresh ∷ []) next)) (none_from_next next state.actors sound.tree next (omega arith))
+      ∙ ap (λ (b : Bool). cond b (Some fresh) None) (eq-eqb next next refl) in
       begin_sound (Kind definitions) callers (with_record state fresh) next fresh (origin.Caller caller) input
       (start_sound (Kind definitions) callers state fresh sound room free refl refl refl refl (stands_fresh next None system (Some (fresh_own machine)) None named))
       seen refl refl tt short (room_after_record state fresh refl letter_room)
@@ -108,11 +108,11 @@ module _ (definitions : OfficeDefinitions) (callers : List Caller) (state : Offi
       by_machine (machine_named definitions machine) refl (unheld_name state system after_name.0)
       (not_fails (has_actor_room state) (test_fails _ 429 word.Actors MAX_ACTIVE_ACTORS after_actors.0))
       (not_fails (has_letter_room state 1) (test_fails _ 429 word.Letters MAX_LETTERS after_letters.0)) where
-    by_machine : (o : Option ℕ) → machine_named definitions machine ≡ o → is_name_held state system ≡ false → has_actor_room state ≡ true → has_letter_room state 1 ≡ true
-        → Sound (Kind definitions) callers (option_map_or (λ (number : ℕ). with_machine state (origin.Caller caller) None number input system) o state)
-    by_machine None is free room letter_room = sound
-    by_machine (Some number) is free room letter_room =
-        machine_sound caller number input system (position_below (λ (outline : MachineOutline). bytes_eq outline.id machine) definitions.machines number is) (system_named system form.1) form.2 free room letter_room
+        by_machine : (o : Option ℕ) → machine_named definitions machine ≡ o → is_name_held state system ≡ false → has_actor_room state ≡ true → has_letter_room state 1 ≡ true
+            → Sound (Kind definitions) callers (option_map_or (λ (number : ℕ). with_machine state (origin.Caller caller) None number input system) o state)
+        by_machine None is free room letter_room = sound
+        by_machine (Some number) is free room letter_room =
+            machine_sound caller number input system (position_below (λ (outline : MachineOutline). bytes_eq outline.id machine) definitions.machines number is) (system_named system form.1) form.2 free room letter_room
 
 -- ---- send
 
@@ -141,10 +141,10 @@ module _ (definitions : OfficeDefinitions) (callers : List Caller) (state : Offi
   sent_sound from n event fits is_one none runner room =
       letter_sound (Kind definitions) (Kind definitions) callers state from n event sound room fits is_one runner (λ a differs kind. kind)
       (λ a seen kind. (
-        let runner_record = running state.actors n runner in
-        let same_record : Some runner_record.0 ≡ Some a = sym runner_record.1 ∙ seen in
-        let same : runner_record.0 ≡ a = cc in
-        kind_mail definitions (new_letter state from event) a none (ap (λ (z : ActorRecord). is_some z.own) (sym same) ∙ runner_record.3) kind))
+      let runner_record = running state.actors n runner in
+      let same_record : Some runner_record.0 ≡ Some a = sym runner_record.1 ∙ seen in
+      let same : runner_record.0 ≡ a = cc in
+      kind_mail definitions (new_letter state from event) a none (ap (λ (z : ActorRecord). is_some z.own) (sym same) ∙ runner_record.3) kind))
 
   send_granted : (caller : List ℕ) (n : ℕ) (event : Value) → HasAskForm (ask.Send n event) → refusal definitions state (ask.Send n event) ≡ None → Sound (Kind definitions) callers (after_grant definitions caller (ask.Send n event) state)
   send_granted caller n event form none =
@@ -180,9 +180,9 @@ unfolding after_end subtree_of
 parent_after_end end n m state same_number same_parent empty unnamed =
     let gone : List ℕ = below state.actors (n ∷ []) in
     ap (option_and_then (λ (a : ActorRecord). a.parent)) (look_map number_of (record_after_end gone n end) (number_after gone n end same_number empty unnamed (below_found state.actors (n ∷ []) n (among_itself n))) state.actors m) ∙ by_record (record_in state.actors m) where
-  by_record : (o : Option ActorRecord) → option_and_then (λ (a : ActorRecord). a.parent) (option_map (record_after_end (below state.actors (n ∷ [])) n end) o) ≡ option_and_then (λ (a : ActorRecord). a.parent) o
-  by_record None = refl
-  by_record (Some a) = end_cases (λ (z : ActorRecord). z.parent ≡ a.parent) (below state.actors (n ∷ [])) n end a (λ is. same_parent a) (λ other below active. refl) (λ other below ended. refl) (λ other beside. refl)
+      by_record : (o : Option ActorRecord) → option_and_then (λ (a : ActorRecord). a.parent) (option_map (record_after_end (below state.actors (n ∷ [])) n end) o) ≡ option_and_then (λ (a : ActorRecord). a.parent) o
+      by_record None = refl
+      by_record (Some a) = end_cases (λ (z : ActorRecord). z.parent ≡ a.parent) (below state.actors (n ∷ [])) n end a (λ is. same_parent a) (λ other below active. refl) (λ other below ended. refl) (λ other beside. refl)
 
 -- who runs above an actor runs on after its end
 pub runs_after_end : (K : ActorRecord → Type 0) (callers : List Caller) (state : OfficeState) → Sound K callers state → (end : ActorRecord → ActorRecord) (n p : ℕ) → ((a : ActorRecord) → (end a).number ≡ a.number)
@@ -194,14 +194,14 @@ runs_after_end K callers state sound end n p same_number empty unnamed less is =
     let f : ActorRecord → ActorRecord = record_after_end gone n end in
     let beside : is_among gone p ≡ false = elim (cases_Bool (is_among gone p)) [
       | inl among ↦ absurd (
-        let from : n ≤ p = below_from state.actors (n ∷ []) n (parents_smaller state.next_actor state.actors sound.tree) (λ m first. (let same : m ≡ n = among_one n m first in omega arith)) p among in
-        omega arith)
+          let from : n ≤ p = below_from state.actors (n ∷ []) n (parents_smaller state.next_actor state.actors sound.tree) (λ m first. (let same : m ≡ n = among_one n m first in omega arith)) p among in
+          omega arith)
       | inr none ↦ none
     ] in
     runs_map f state.actors (number_after gone n end same_number empty unnamed itself) p
     (λ a seen active own. (
-      let same : f a ≡ a = stays_after gone n end same_number empty unnamed itself a (ap (is_among gone) (look_number number_of state.actors p a seen) ∙ beside) in
-      (ap is_active same ∙ active, ap (λ (z : ActorRecord). is_some z.own) same ∙ own))) is
+    let same : f a ≡ a = stays_after gone n end same_number empty unnamed itself a (ap (is_among gone) (look_number number_of state.actors p a seen) ∙ beside) in
+    (ap is_active same ∙ active, ap (λ (z : ActorRecord). is_some z.own) same ∙ own))) is
 
 -- an actor ends, and its parent is told
 module _ (definitions : OfficeDefinitions) (K : ActorRecord → Type 0) (callers : List Caller) (state : OfficeState) (n : ℕ) (actor : ActorRecord) (end : ActorRecord → ActorRecord) (sound : Sound K callers state)
@@ -212,9 +212,9 @@ module _ (definitions : OfficeDefinitions) (K : ActorRecord → Type 0) (callers
   ended_sound =
       end_sound K (Kind definitions) callers state n end sound same_number same_parent same_kids inactive empty unnamed
       (λ a there stands. (
-        let same_record : Some actor ≡ Some a = sym seen ∙ there in
-        let same : actor ≡ a = cc in
-        stands_end a (ap is_active (sym same) ∙ active) stands))
+      let same_record : Some actor ≡ Some a = sym seen ∙ there in
+      let same : actor ≡ a = cc in
+      stands_end a (ap is_active (sym same) ∙ active) stands))
       (λ a there kind. kind_end a (look_number number_of state.actors n a there) kind)
       (λ a differs is kind. kind_stopped definitions a (others a differs kind)) others
 
@@ -258,7 +258,7 @@ module _ (definitions : OfficeDefinitions) (callers : List Caller) (state : Offi
       fits begins
       (parent_runs_after definitions (Kind definitions) callers state n item.0 end sound item.1 item.2 same_number same_parent same_kids inactive empty unnamed stands_end (λ a same kind. kind_end a kind) (λ a differs kind. kind))
       (λ p is. room_after_end definitions (Kind definitions) callers state n item.0 end sound item.1 item.2 same_number same_parent same_kids inactive empty unnamed stands_end (λ a same kind. kind_end a kind) (λ a differs kind. kind)
-        (parent_room n p room (sym (parent_after_end end n n state same_number same_parent empty unnamed) ∙ is)))
+      (parent_room n p room (sym (parent_after_end end n n state same_number same_parent empty unnamed) ∙ is)))
 
   resolve_granted : (caller : List ℕ) (n : ℕ) (output : Value) → HasAskForm (ask.Resolve n output) → refusal definitions state (ask.Resolve n output) ≡ None → Sound (Kind definitions) callers (after_grant definitions caller (ask.Resolve n output) state)
   resolve_granted caller n output form none =
@@ -313,9 +313,9 @@ pub runs_mail : (letter : Letter) (actors : List ActorRecord) (n m : ℕ) → ru
 runs_mail letter actors n m =
     ap (λ (o : Option ActorRecord). option_map_or (λ (a : ActorRecord). is_active a && is_some a.own) o false) (look_map number_of (at number_of n (with_mail letter)) (at_number number_of n (with_mail letter) (λ a. refl)) actors m)
     ∙ by_record (record_in actors m) where
-  by_record : (o : Option ActorRecord) → option_map_or (λ (a : ActorRecord). is_active a && is_some a.own) (option_map (at number_of n (with_mail letter)) o) false ≡ option_map_or (λ (a : ActorRecord). is_active a && is_some a.own) o false
-  by_record None = refl
-  by_record (Some a) = at_same number_of (λ (z : ActorRecord). is_active z && is_some z.own) n (with_mail letter) (λ z. refl) a
+      by_record : (o : Option ActorRecord) → option_map_or (λ (a : ActorRecord). is_active a && is_some a.own) (option_map (at number_of n (with_mail letter)) o) false ≡ option_map_or (λ (a : ActorRecord). is_active a && is_some a.own) o false
+      by_record None = refl
+      by_record (Some a) = at_same number_of (λ (z : ActorRecord). is_active z && is_some z.own) n (with_mail letter) (λ z. refl) a
 
 module _ (definitions : OfficeDefinitions) (callers : List Caller) where
   -- so many of the timers become letters
@@ -336,7 +336,7 @@ module _ (definitions : OfficeDefinitions) (callers : List Caller) where
         let after : OfficeState = with_letter state (origin.Actor timer.owner) timer.target timer.event in
         let rooms = room_of state (suc (letters_from state timers)) room in
         let same : letters_from after timers ≡ letters_from state timers =
-            ap length (filter_same (λ (t : Timer). is_active_machine after t.target) (λ (t : Timer). is_active_machine state t.target) timers (λ t. runs_mail letter state.actors timer.target t.target)) in
+        ap length (filter_same (λ (t : Timer). is_active_machine after t.target) (λ (t : Timer). is_active_machine state t.target) timers (λ t. runs_mail letter state.actors timer.target t.target)) in
         let more = sum_at_le number_of (λ (a : ActorRecord). length a.mailbox) 1 timer.target (with_mail letter) state.actors sound.tree.rise (λ a. omega (arith, length-append a.mailbox (letter ∷ []))) in
         rest after
         (sent_sound definitions callers state sound (origin.Actor timer.owner) timer.target timer.event all.0.owner all.0.event all.0.begins is (room_from state 1 (omega (arith, rooms.0)) (omega (arith, rooms.1))))
@@ -349,8 +349,8 @@ module _ (definitions : OfficeDefinitions) (callers : List Caller) where
         (each_filter (IsDue state.next_actor) (λ (timer : Timer). nat_le timer.due moment) state.timers
         (each_mono (FitsTimer state.next_actor state.next_timer state.actors) (IsDue state.next_actor) state.timers
         (λ timer fits. (
-          let runner = running state.actors timer.owner fits.owner in
-          record { owner = given_in state.next_actor state.actors sound.tree timer.owner runner.0 runner.1; event = fits.event; begins = timed_begins_none timer.event fits.no_init })) sound.parts.timers_fit))
+        let runner = running state.actors timer.owner fits.owner in
+        record { owner = given_in state.next_actor state.actors sound.tree timer.owner runner.0 runner.1; event = fits.event; begins = timed_begins_none timer.event fits.no_init })) sound.parts.timers_fit))
 
     at_granted : (caller : List ℕ) (moment : ℕ) → HasAskForm (ask.At moment) → refusal definitions state (ask.At moment) ≡ None → Sound (Kind definitions) callers (after_grant definitions caller (ask.At moment) state)
     unfolding after_advance
@@ -388,7 +388,7 @@ decisions_keep_validity definitions state request valid is_request = answered (u
       let sound_after = granted definitions state.callers state sound request.caller request.ask is_request.1.form.ask is in
       valid_from definitions after (with_reply request.caller reply after.callers) state.callers
       (subst (λ (callers : List Caller). CallerRules (with_reply request.caller reply callers)) (sym sound_after.counts.same_callers)
-        (rules_reply state request reply room is_request.1.form.caller (grant_in_table state request.ask) (caller_rules definitions state valid))) sound_after
+      (rules_reply state request reply room is_request.1.form.caller (grant_in_table state request.ask) (caller_rules definitions state valid))) sound_after
 
   answered : (row : Row) → undecided state request ≡ row → IsValidOffice definitions (answer_by definitions state request row).after
   answered (Some reply) is = valid

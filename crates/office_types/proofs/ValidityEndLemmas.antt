@@ -79,9 +79,9 @@ fold_without {X} key (n ∷ gone) xs =
     fold_without key gone (filter (λ (y : X). not (nat_eq (key y) n)) xs)
     ∙ filter_filter (λ (x : X). not (is_among gone (key x))) (λ (y : X). not (nat_eq (key y) n)) xs
     ∙ filter_same (λ (x : X). not (nat_eq (key x) n) && not (is_among gone (key x))) (λ (x : X). not (nat_eq (key x) n || is_among gone (key x))) xs (λ x. both (nat_eq (key x) n) (is_among gone (key x))) where
-  both : (a b : Bool) → (not a && not b) ≡ not (a || b)
-  both true b = refl
-  both false b = refl
+      both : (a b : Bool) → (not a && not b) ≡ not (a || b)
+      both true b = refl
+      both false b = refl
 
 stays_true : (b : Bool) → not b ≡ true → b ≡ false
 stays_true true is = sym is
@@ -113,12 +113,12 @@ module _ (gone : List ℕ) where
   names_filter (actor ∷ actors) =
       by_test (filter (λ (a : ActorRecord). not (is_among gone a.number)) actors) (names_filter actors) (is_among gone actor.number) refl
       ∙ sym (filter_joined (λ (pair : List ℕ × ℕ). not (is_among gone pair.1)) (name_of actor) (names_of actors)) where
-    by_test : (others : List ActorRecord) → names_of others ≡ filter (λ (pair : List ℕ × ℕ). not (is_among gone pair.1)) (names_of actors) → (b : Bool) → is_among gone actor.number ≡ b
-        → names_of (cond (not b) (actor ∷ others) others) ≡ filter (λ (pair : List ℕ × ℕ). not (is_among gone pair.1)) (name_of actor) ++ filter (λ (pair : List ℕ × ℕ). not (is_among gone pair.1)) (names_of actors)
-    by_test others rest true is = rest ∙ ap (λ (names : List (List ℕ × ℕ)). names ++ filter (λ (pair : List ℕ × ℕ). not (is_among gone pair.1)) (names_of actors)) (sym (name_goes gone actor actor.system is))
-    by_test others rest false is =
-        ap (λ (names : List (List ℕ × ℕ)). name_of actor ++ names) rest
-        ∙ ap (λ (names : List (List ℕ × ℕ)). names ++ filter (λ (pair : List ℕ × ℕ). not (is_among gone pair.1)) (names_of actors)) (sym (name_stays gone actor actor.system is))
+        by_test : (others : List ActorRecord) → names_of others ≡ filter (λ (pair : List ℕ × ℕ). not (is_among gone pair.1)) (names_of actors) → (b : Bool) → is_among gone actor.number ≡ b
+            → names_of (cond (not b) (actor ∷ others) others) ≡ filter (λ (pair : List ℕ × ℕ). not (is_among gone pair.1)) (name_of actor) ++ filter (λ (pair : List ℕ × ℕ). not (is_among gone pair.1)) (names_of actors)
+        by_test others rest true is = rest ∙ ap (λ (names : List (List ℕ × ℕ)). names ++ filter (λ (pair : List ℕ × ℕ). not (is_among gone pair.1)) (names_of actors)) (sym (name_goes gone actor actor.system is))
+        by_test others rest false is =
+            ap (λ (names : List (List ℕ × ℕ)). name_of actor ++ names) rest
+            ∙ ap (λ (names : List (List ℕ × ℕ)). names ++ filter (λ (pair : List ℕ × ℕ). not (is_among gone pair.1)) (names_of actors)) (sym (name_stays gone actor actor.system is))
 
   runs_filter : (actors : List ActorRecord) (n : ℕ) → is_among gone n ≡ false → runs actors n ≡ true → runs (filter (λ (a : ActorRecord). not (is_among gone a.number)) actors) n ≡ true
   runs_filter actors n kept is =
@@ -219,15 +219,15 @@ module _ (gone : List ℕ) (n : ℕ) (end : ActorRecord → ActorRecord) (same_n
       let left_names = fold_without (λ (pair : List ℕ × ℕ). pair.1) gone names in
       record {
         stands = each_map Stands after actors (look_each number_of (λ (a : ActorRecord). Stands (after a)) actors rising (λ m a seen. (
-          let stands : Stands a = each_look number_of Stands actors parts.stands m a seen in
-          end_cases Stands gone n end a (λ is. stands_end a (ap (record_in actors) (sym is ∙ look_number number_of actors m a seen) ∙ seen) stands)
-              (λ other below active. stands_stopped a active stands) (λ other below inactive. stands) (λ other beside. stands))));
+            let stands : Stands a = each_look number_of Stands actors parts.stands m a seen in
+            end_cases Stands gone n end a (λ is. stands_end a (ap (record_in actors) (sym is ∙ look_number number_of actors m a seen) ∙ seen) stands)
+            (λ other below active. stands_stopped a active stands) (λ other below inactive. stands) (λ other beside. stands))));
         mail = each_map (Mail na la) after actors (each_mono (Mail na la) (λ (a : ActorRecord). Mail na la (after a)) actors (mail_after (FitsLetter na la)) parts.mail);
         once = λ m. omega (arith, sum_map_le (numbered m) after actors (numbered_after m), parts.once m);
         timers_fit = subst (AllByRecursion (FitsTimer na ta (map after actors))) (sym left_timers)
             (timers_stay na ta gone actors (map after actors) timers (λ m kept. runs_map after actors number_after m
-              (λ a seen active own. (let same : after a ≡ a = stays_after a (ap (is_among gone) (look_number number_of actors m a seen) ∙ kept) in
-                (ap is_active same ∙ active, ap (λ (z : ActorRecord). is_some z.own) same ∙ own)))) parts.timers_fit);
+            (λ a seen active own. (let same : after a ≡ a = stays_after a (ap (is_among gone) (look_number number_of actors m a seen) ∙ kept) in
+            (ap is_active same ∙ active, ap (λ (z : ActorRecord). is_some z.own) same ∙ own)))) parts.timers_fit);
         timers_rise = subst (Rises (λ (timer : Timer). timer.order)) (sym left_timers) (pairs_filter (λ (a b : Timer). a.order < b.order) (λ (timer : Timer). not (is_among gone timer.owner)) timers parts.timers_rise);
         timer_ids = subst (Pairs (λ (a b : Timer). AreOfOneId a b → ⊥)) (sym left_timers) (pairs_filter (λ (a b : Timer). AreOfOneId a b → ⊥) (λ (timer : Timer). not (is_among gone timer.owner)) timers parts.timer_ids);
         names_same = left_names ∙ ap (filter (λ (pair : List ℕ × ℕ). not (is_among gone pair.1))) parts.names_same ∙ sym (names_after actors parts.stands);

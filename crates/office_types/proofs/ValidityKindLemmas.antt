@@ -60,16 +60,16 @@ module _ (definitions : OfficeDefinitions) where
   pub kind_over : (a b : ActorRecord) → b.number ≡ a.number → b.own ≡ a.own → b.item ≡ a.item → b.kids ≡ a.kids → b.mailbox ≡ [] → is_active b ≡ false → Kind definitions a → Kind definitions b
   kind_over a b same_number same_own same_item same_kids empty inactive kind =
       subst (λ (o : Option Own). IsOfOneKind definitions b o b.item) (sym same_own) (subst (λ (i : Option Item). IsOfOneKind definitions b a.own i) (sym same_item) (by_kind a.own a.item kind)) where
-    by_kind : (own : Option Own) (item : Option Item) → IsOfOneKind definitions a own item → IsOfOneKind definitions b own item
-    by_kind (Some own) None kind = record {
-      machine = kind.machine;
-      part = kind.part;
-      kids = ap (map (λ (kid : List ℕ × ℕ). kid.0)) same_kids ∙ kind.kids;
-      init = λ active. absurd (true≢false (sym active ∙ inactive));
-    }
-    by_kind (Some own) (Some item) kind = absurd kind
-    by_kind None (Some item) kind = record { number = kind.number ∙ sym same_number; input = kind.input; kids = same_kids ∙ kind.kids; letters = empty }
-    by_kind None None kind = absurd kind
+        by_kind : (own : Option Own) (item : Option Item) → IsOfOneKind definitions a own item → IsOfOneKind definitions b own item
+        by_kind (Some own) None kind = record {
+          machine = kind.machine;
+          part = kind.part;
+          kids = ap (map (λ (kid : List ℕ × ℕ). kid.0)) same_kids ∙ kind.kids;
+          init = λ active. absurd (true≢false (sym active ∙ inactive));
+        }
+        by_kind (Some own) (Some item) kind = absurd kind
+        by_kind None (Some item) kind = record { number = kind.number ∙ sym same_number; input = kind.input; kids = same_kids ∙ kind.kids; letters = empty }
+        by_kind None None kind = absurd kind
 
   pub kind_stopped : (a : ActorRecord) → Kind definitions a → Kind definitions (ended_record status.Stopped a)
   kind_stopped a kind = kind_over a (ended_record status.Stopped a) refl refl refl refl refl refl kind
@@ -153,10 +153,10 @@ module _ (definitions : OfficeDefinitions) (callers : List Caller) (state : Offi
       let letter_event : Value = event (child_id state p n) in
       letter_sound (Kind definitions) (Kind definitions) callers state (origin.Actor n) p letter_event sound room given (fits (child_id state p n)) runner (λ a differs kind. kind)
       (λ a seen kind. (
-        let runner_record = running state.actors p runner in
-        let same_record : Some runner_record.0 ≡ Some a = sym runner_record.1 ∙ seen in
-        let same : runner_record.0 ≡ a = cc in
-        kind_mail definitions (new_letter state (origin.Actor n) letter_event) a (begins (child_id state p n)) (ap (λ (z : ActorRecord). is_some z.own) (sym same) ∙ runner_record.3) kind))
+      let runner_record = running state.actors p runner in
+      let same_record : Some runner_record.0 ≡ Some a = sym runner_record.1 ∙ seen in
+      let same : runner_record.0 ≡ a = cc in
+      kind_mail definitions (new_letter state (origin.Actor n) letter_event) a (begins (child_id state p n)) (ap (λ (z : ActorRecord). is_some z.own) (sym same) ∙ runner_record.3) kind))
 
   -- a letter to the parent, if there is one
   pub told_sound : ((p : ℕ) → parent_of state n ≡ Some p → runs state.actors p ≡ true) → ((p : ℕ) → parent_of state n ≡ Some p → has_letter_room state 1 ≡ true) → Sound (Kind definitions) callers (with_letter_to_parent state n event)

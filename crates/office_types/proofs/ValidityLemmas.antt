@@ -68,8 +68,12 @@ counted_once (letter ∷ letters) differ m = by_test (counted_once letters diffe
       → (b : Bool) → nat_eq letter.number m ≡ b → count_by (λ (l : Letter). nat_eq l.number m) (letter ∷ letters) ≤ 1
   by_test rest whole true is =
       let same : letter.number ≡ m = eqb-true letter.number m is in
-      omega (arith, ap {B = ℕ} (λ (b : Bool). cond b 1 0) is, count_none (λ (l : Letter). nat_eq l.number m) letters
-        (each_mono (λ (l : Letter). letter.number ≢ l.number) (λ (l : Letter). nat_eq l.number m ≡ false) letters (λ l differs. ne_eqb l.number m (λ e. differs (same ∙ sym e))) differ.0))
+      omega (
+        arith,
+        ap {B = ℕ} (λ (b : Bool). cond b 1 0) is,
+        count_none (λ (l : Letter). nat_eq l.number m) letters
+            (each_mono (λ (l : Letter). letter.number ≢ l.number) (λ (l : Letter). nat_eq l.number m ≡ false) letters (λ l differs. ne_eqb l.number m (λ e. differs (same ∙ sym e))) differ.0),
+      )
   by_test rest whole false is = omega (arith, ap {B = ℕ} (λ (b : Bool). cond b 1 0) is)
 
 once_counted : (letters : List Letter) → ((m : ℕ) → count_by (λ (l : Letter). nat_eq l.number m) letters ≤ 1) → Pairs (λ (a b : Letter). a.number ≢ b.number) letters
@@ -119,12 +123,12 @@ module _ (definitions : OfficeDefinitions) (state : OfficeState) where
     given = each_mono (IsActor definitions state) (λ (a : ActorRecord). IsGiven state.next_actor a.number) state.actors (λ a is. is.number) each;
     parents = λ n a p seen parent. child_from a p (at_some (IsChildOf state a) a.parent p ((each_look number_of (IsActor definitions state) state.actors each n a seen).parent) parent);
     kids = λ n a seen. (
-      let same : a.number ≡ n = look_number number_of state.actors n a seen in
-      subst (λ (m : ℕ). AllByRecursion (λ (kid : List ℕ × ℕ). parent_in state.actors kid.1 ≡ Some m) a.kids) same
-          (recursion_from_All (λ (kid : List ℕ × ℕ). HasParent state a.number kid.1) a.kids ((each_look number_of (IsActor definitions state) state.actors each n a seen).kids)));
+        let same : a.number ≡ n = look_number number_of state.actors n a seen in
+        subst (λ (m : ℕ). AllByRecursion (λ (kid : List ℕ × ℕ). parent_in state.actors kid.1 ≡ Some m) a.kids) same
+        (recursion_from_All (λ (kid : List ℕ × ℕ). HasParent state a.number kid.1) a.kids ((each_look number_of (IsActor definitions state) state.actors each n a seen).kids)));
     levels = λ n a seen. (
-      let same : a.number ≡ n = look_number number_of state.actors n a seen in
-      ap (within state.actors 16) (sym same) ∙ sym (within_is state 16 a.number) ∙ (each_look number_of (IsActor definitions state) state.actors each n a seen).levels);
+        let same : a.number ≡ n = look_number number_of state.actors n a seen in
+        ap (within state.actors 16) (sym same) ∙ sym (within_is state 16 a.number) ∙ (each_look number_of (IsActor definitions state) state.actors each n a seen).levels);
   }
 
   timer_from : (timer : Timer) → IsTimer state timer → FitsTimer state.next_actor state.next_timer state.actors timer

@@ -157,12 +157,13 @@ module _ {X : Type 0} (number : X → ℕ) where
 
   pub look_each : (P : X → Type 0) (xs : List X) → Rises number xs → ((n : ℕ) (x : X) → look xs n ≡ Some x → P x) → AllByRecursion P xs
   look_each P [] rising has = tt
-  look_each P (x ∷ xs) rising has =
-      (has (number x) x (ap (λ (b : Bool). cond b (Some x) (look xs (number x))) (eq-eqb (number x) (number x) refl)),
-       look_each P xs rising.1 (λ n y found. has n y (
-         let e : number y ≡ n = look_number xs n y found in
-         let less : number x < number y = each_look (λ z. number x < number z) xs rising.0 n y found in
-         ap (λ (b : Bool). cond b (Some x) (look xs n)) (ne_eqb (number x) n (omega arith)) ∙ found)))
+  look_each P (x ∷ xs) rising has = (
+    has (number x) x (ap (λ (b : Bool). cond b (Some x) (look xs (number x))) (eq-eqb (number x) (number x) refl)),
+    look_each P xs rising.1 (λ n y found. has n y (
+        let e : number y ≡ n = look_number xs n y found in
+        let less : number x < number y = each_look (λ z. number x < number z) xs rising.0 n y found in
+        ap (λ (b : Bool). cond b (Some x) (look xs n)) (ne_eqb (number x) n (omega arith)) ∙ found)),
+  )
 
   pub look_map : (f : X → X) → ((x : X) → number (f x) ≡ number x) → (xs : List X) (n : ℕ) → look (map f xs) n ≡ option_map f (look xs n)
   look_map f same [] n = refl
@@ -232,12 +233,13 @@ module _ {X : Type 0} (number : X → ℕ) where
   pub each_at : (P Q : X → Type 0) (n : ℕ) (change : X → X) (xs : List X) → Rises number xs → AllByRecursion P xs → ((x : X) → number x ≢ n → P x → Q x)
       → ((x : X) → look xs n ≡ Some x → P x → Q (change x)) → AllByRecursion Q (map (at n change) xs)
   each_at P Q n change [] rising all others changed = tt
-  each_at P Q n change (x ∷ xs) rising all others changed =
-      (by_number (nat_eq (number x) n) refl,
-       each_at P Q n change xs rising.1 all.1 others (λ y found is.
-         let same : number y ≡ n = look_number xs n y found in
-         let less : number x < number y = each_look (λ z. number x < number z) xs rising.0 n y found in
-         changed y (ap (λ (b : Bool). cond b (Some x) (look xs n)) (ne_eqb (number x) n (omega arith)) ∙ found) is)) where
+  each_at P Q n change (x ∷ xs) rising all others changed = (
+    by_number (nat_eq (number x) n) refl,
+    each_at P Q n change xs rising.1 all.1 others (λ y found is.
+        let same : number y ≡ n = look_number xs n y found in
+        let less : number x < number y = each_look (λ z. number x < number z) xs rising.0 n y found in
+        changed y (ap (λ (b : Bool). cond b (Some x) (look xs n)) (ne_eqb (number x) n (omega arith)) ∙ found) is),
+  ) where
     by_number : (b : Bool) → nat_eq (number x) n ≡ b → Q (if b then change x else x)
     by_number true is = changed x (ap (λ (b : Bool). cond b (Some x) (look xs n)) is) all.0
     by_number false is = others x (λ e. eqb-false (number x) n is e) all.0
@@ -268,9 +270,9 @@ none_counted counted [] none = tt
 none_counted {X} counted (x ∷ xs) none =
     let whole : count_by counted (x ∷ xs) ≡ cond (counted x) 1 0 + count_by counted xs = sum_by-cons (λ (y : X). cond (counted y) 1 0) x xs in
     (by_test (counted x) refl whole, none_counted counted xs (omega arith)) where
-  by_test : (b : Bool) → counted x ≡ b → count_by counted (x ∷ xs) ≡ cond b 1 0 + count_by counted xs → counted x ≡ false
-  by_test true is whole = absurd (omega arith)
-  by_test false is whole = is
+      by_test : (b : Bool) → counted x ≡ b → count_by counted (x ∷ xs) ≡ cond b 1 0 + count_by counted xs → counted x ≡ false
+      by_test true is whole = absurd (omega arith)
+      by_test false is whole = is
 
 pub sum_zero : {X : Type 0} (f : X → ℕ) (xs : List X) → AllByRecursion (λ x. f x ≡ 0) xs → sum_by f xs ≡ 0
 sum_zero f [] all = refl

@@ -151,19 +151,19 @@ pub parts_letter : (na la ta : ℕ) (actors : List ActorRecord) (timers : List T
 parts_letter na la ta actors timers names n letter positive new from event rising is parts = record {
   stands = each_at number_of (λ (a : ActorRecord). Stands a × Mail na la a) Stands n (with_mail letter) actors rising (each_both Stands (Mail na la) actors parts.stands parts.mail) (λ a other facts. facts.0)
       (λ a seen facts. (
-        let runner = running actors n is in
-        let same_record : Some runner.0 ≡ Some a = sym runner.1 ∙ seen in
-        let same : runner.0 ≡ a = cc in
-        stands_mail na la letter a new (ap is_active (sym same) ∙ runner.2) facts.1 facts.0));
+      let runner = running actors n is in
+      let same_record : Some runner.0 ≡ Some a = sym runner.1 ∙ seen in
+      let same : runner.0 ≡ a = cc in
+      stands_mail na la letter a new (ap is_active (sym same) ∙ runner.2) facts.1 facts.0));
   mail = each_at number_of (Mail na la) (Mail na (la + 1)) n (with_mail letter) actors rising parts.mail
       (λ a other mail. each_mono (FitsLetter na la) (FitsLetter na (la + 1)) a.mailbox (letter_more na na la (la + 1) (omega arith) (omega arith)) mail)
       (λ a seen mail. each_push (FitsLetter na (la + 1)) a.mailbox letter (each_mono (FitsLetter na la) (FitsLetter na (la + 1)) a.mailbox (letter_more na na la (la + 1) (omega arith) (omega arith)) mail)
-        ((omega arith, omega arith), from, event));
+      ((omega arith, omega arith), from, event));
   once = once;
   timers_fit = each_mono (FitsTimer na ta actors) (FitsTimer na ta (map (at number_of n (with_mail letter)) actors)) timers
       (λ timer fits. timer_more na na ta ta actors (map (at number_of n (with_mail letter)) actors) timer (omega arith) (omega arith)
-        (runs_map (at number_of n (with_mail letter)) actors (at_number number_of n (with_mail letter) (λ a. refl)) timer.owner
-          (λ a seen active own. (at_same number_of is_active n (with_mail letter) (λ z. refl) a ∙ active, at_same number_of (λ (z : ActorRecord). is_some z.own) n (with_mail letter) (λ z. refl) a ∙ own))) fits) parts.timers_fit;
+      (runs_map (at number_of n (with_mail letter)) actors (at_number number_of n (with_mail letter) (λ a. refl)) timer.owner
+      (λ a seen active own. (at_same number_of is_active n (with_mail letter) (λ z. refl) a ∙ active, at_same number_of (λ (z : ActorRecord). is_some z.own) n (with_mail letter) (λ z. refl) a ∙ own))) fits) parts.timers_fit;
   timers_rise = parts.timers_rise;
   timer_ids = parts.timer_ids;
   names_same = parts.names_same ∙ sym (names_map (at number_of n (with_mail letter)) actors (at_same number_of name_of n (with_mail letter) (λ z. refl)));
@@ -178,6 +178,6 @@ parts_letter na la ta actors timers names n letter positive new from event risin
     by_number true is =
         let same : letter.number ≡ m = eqb-true letter.number m is in
         let none : sum_by (numbered m) actors ≡ 0 = sum_zero (numbered m) actors (each_mono (Mail na la) (λ (a : ActorRecord). numbered m a ≡ 0) actors
-            (λ a mail. count_none (λ (l : Letter). nat_eq l.number m) a.mailbox (each_mono (FitsLetter na la) (λ (l : Letter). nat_eq l.number m ≡ false) a.mailbox (λ l fits. ne_eqb l.number m (λ e. omega (arith, fits.0.1))) mail)) parts.mail) in
+        (λ a mail. count_none (λ (l : Letter). nat_eq l.number m) a.mailbox (each_mono (FitsLetter na la) (λ (l : Letter). nat_eq l.number m ≡ false) a.mailbox (λ l fits. ne_eqb l.number m (λ e. omega (arith, fits.0.1))) mail)) parts.mail) in
         omega (arith, sum_at_le number_of (numbered m) (cond (nat_eq letter.number m) 1 0) n (with_mail letter) actors rising (added m), ap {B = ℕ} (λ (b : Bool). cond b 1 0) is)
     by_number false is = omega (arith, sum_at_le number_of (numbered m) (cond (nat_eq letter.number m) 1 0) n (with_mail letter) actors rising (added m), ap {B = ℕ} (λ (b : Bool). cond b 1 0) is, parts.once m)

@@ -1,21 +1,20 @@
 -- In the middle of a step: the effects so far leave a valid office but for the children that the own part lists.
-use Rattle.std.proofs.Common.{◌≡◌, ◌≢◌, ◌⊎◌, inl, inr, ℕ, suc, zero, ◌+◌, ◌<◌, ◌≤◌, Bool, true, false, cond, not, ◌&&◌, ◌||◌, true≢false, List, [], ◌∷◌, ◌++◌, length, length-append, map, drop, refl, sym, ap, subst, ◌∙◌, arith}
-use Rattle.std.specs.Prelude.{Option, None, Some, is_none, is_some, filter, find, fold, sum_by, nat_eq, nat_le, nat_lt, IsTrue, IfSome, All, MatchBool, Result, Ok, Err, slice_get, if◌then◌else◌, ⊤}
+use Rattle.std.proofs.Common.{◌≡◌, ◌≢◌, inl, inr, ℕ, suc, zero, ◌+◌, ◌<◌, ◌≤◌, Bool, true, false, cond, not, ◌||◌, true≢false, List, [], ◌∷◌, ◌++◌, length, map, refl, sym, ap, subst, ◌∙◌, arith}
+use Rattle.std.specs.Prelude.{Option, None, Some, is_some, filter, fold, nat_eq, nat_le, nat_lt, IsTrue, IfSome, Ok, Err, slice_get, if◌then◌else◌, ⊤}
 use Rattle.std.specs.List.{AllByRecursion, list_any}
 use Rattle.std.specs.Map.{lookup}
-use Rattle.std.specs.Option.{option_and_then, option_map, option_map_or, option_or}
+use Rattle.std.specs.Option.{option_and_then, option_map_or}
 use Rattle.std.specs.Str.{bytes_eq}
 use Rattle.std.proofs.lemmas.Bool.{and_from, and_parts, cases_Bool, eq-eqb, eqb-true, eqb-false, leb-true, ltb-true, or_parts}
 use Rattle.std.proofs.lemmas.List.{map-append}
-use Rattle.std.proofs.lemmas.List.Elements.{All-from_recursion, recursion_from_All}
+use Rattle.std.proofs.lemmas.List.Elements.{recursion_from_All}
 use Rattle.xs_model.specs.declared.value.Value.{Value}
-use Rattle.office_types.specs.declared.limits.TheConstants.{MAX_MOMENT, MAX_NEXT_NUMBER, MAX_TIMERS}
+use Rattle.office_types.specs.declared.limits.TheConstants.{MAX_NEXT_NUMBER, MAX_TIMERS}
 use Rattle.office_types.specs.declared.office.ActorRecord.{ActorRecord}
 use Rattle.office_types.specs.declared.office.Caller.{Caller}
 use Rattle.office_types.specs.declared.office.Item.{Item}
 use Rattle.office_types.specs.declared.office.Letter.{Letter}
 use Rattle.office_types.specs.declared.office.OfficeState.{OfficeState}
-use Rattle.office_types.specs.declared.office.Origin.{Origin}
 use Rattle.office_types.specs.declared.office.Origin.TheVariants as origin
 use Rattle.office_types.specs.declared.office.Timer.{Timer}
 use Rattle.office_types.specs.declared.outcome.Effect.{Effect}
@@ -23,30 +22,28 @@ use Rattle.office_types.specs.declared.outcome.Effect.TheVariants as effect
 use Rattle.office_types.specs.declared.outcome.FaultName.TheVariants.{ActorsFull, LettersFull, NameHeld, TimersFull, TooDeep}
 use Rattle.office_types.specs.declared.outcome.Own.{Own}
 use Rattle.office_types.specs.declared.outcome.To.{To}
-use Rattle.office_types.specs.Definitions.{ActorLogic, AreLinked, OfficeDefinitions, nodes_of}
+use Rattle.office_types.specs.Definitions.{ActorLogic, AreLinked, OfficeDefinitions}
 use Rattle.office_types.specs.Effects.{after_cancel, after_effect, after_effects, after_schedule, after_send, after_spawn, after_stop, child_of, first_letters, fresh_own, fresh_record, has_actor_room, has_level_below, has_timer_room, is_name_held, timer_now, with_child, with_item, with_kid, with_logic, with_machine, with_record, with_timer, with_timer_if_room, without_kid}
-use Rattle.office_types.specs.Ends.{is_among, removed, subtree_of}
-use Rattle.office_types.specs.Events.{event_type, init_event, init_type, is_reserved}
+use Rattle.office_types.specs.Ends.{removed, subtree_of}
+use Rattle.office_types.specs.Events.{event_type, init_event, is_reserved}
 use Rattle.office_types.specs.Fitting.{Fitted, ◌>>=◌}
-use Rattle.office_types.specs.Limits.{is_event, is_name, is_short}
-use Rattle.office_types.specs.Mailboxes.{has_letter_room, waiting_letters, with_letter, with_letter_if_room, with_mail, without_head}
+use Rattle.office_types.specs.Limits.{is_name, is_short}
+use Rattle.office_types.specs.Mailboxes.{has_letter_room, with_letter, with_letter_if_room, with_mail}
 use Rattle.office_types.specs.Outcomes.{AreAllowedEffects, IsAllowedEffect, IsSent, IsSpawn, IsTimed, children_after}
-use Rattle.office_types.specs.OwnParts.{IsOwnPart}
 use Rattle.office_types.specs.Receivers.{if_active_machine, named_by, receiver_of}
 use Rattle.office_types.specs.Records.{is_active, is_active_machine, record_of, with_actor}
-use Rattle.office_types.specs.Step.{with_own}
 use Rattle.office_types.specs.Timers.{beside, has_id, with_scheduled, without_id}
-use Rattle.office_types.specs.ValidOffice.{AreOfOneId, HasInitAsHead, HasItsInit, HasNoInit, IsGiven, IsMachineActor, IsOfOneKind, is_init}
-use Rattle.office_types.proofs.ValidityListLemmas.{Pairs, Rises, at, at_number, at_same, each_both, each_filter, each_look, each_mono, each_passing, each_push, look_map, look_number, look_push, map_pairs, pairs_filter, pairs_push, sum_map_le, sum_push}
-use Rattle.office_types.proofs.ValidityTreeLemmas.{Tree, among_itself, among_one, below, given_in, none_from_next, number_of, record_in, spawned_new, spawned_seen, within, within_is}
-use Rattle.office_types.proofs.ValidityStopLemmas.{bytes_same, parent_stays, same_bytes, stopped_seen}
-use Rattle.office_types.proofs.ValidityPartLemmas.{FitsOrigin, FitsTimer, Parts, Stands, running, runs, runs_from, timer_more}
-use Rattle.office_types.proofs.ValidityLemmas.{Counts, Kind, Sound}
+use Rattle.office_types.specs.ValidOffice.{AreOfOneId, IsGiven, is_init}
+use Rattle.office_types.proofs.ValidityListLemmas.{Pairs, at, at_same, each_filter, each_look, each_mono, each_passing, each_push, look_number, map_pairs, pairs_filter, pairs_push, sum_map_le, sum_push}
+use Rattle.office_types.proofs.ValidityTreeLemmas.{given_in, number_of, record_in, spawned_new, spawned_seen, within, within_is}
+use Rattle.office_types.proofs.ValidityStopLemmas.{bytes_same, parent_stays, stopped_seen}
+use Rattle.office_types.proofs.ValidityPartLemmas.{FitsTimer, Stands, running, runs, runs_from, timer_more}
+use Rattle.office_types.proofs.ValidityLemmas.{Kind, Sound}
 use Rattle.office_types.proofs.ValidityChangeLemmas.{Except, either_at, letter_sound, new_letter}
 use Rattle.office_types.proofs.ValidityActorLemmas.{fewer_timers_sound, spawn_sound, stop_sound, timers_sound}
 use Rattle.office_types.proofs.ValidityEventLemmas.{begins_none, init_begins}
 use Rattle.office_types.proofs.ValidityKindLemmas.{kind_begins, kind_mail, room_from, room_of, stands_fresh}
-use Rattle.office_types.proofs.ValidityDecisionLemmas.{begin_sound, runs_mail, timed_begins_none, unreserved_begins_none}
+use Rattle.office_types.proofs.ValidityDecisionLemmas.{begin_sound, runs_mail, unreserved_begins_none}
 
 -- ---- kinds in the middle of a step
 
@@ -77,15 +74,15 @@ beside_differs timer timers = by_id timer.id refl where
   by_id (Some id) is =
       each_passing (λ (other : Timer). ⊤) (λ (other : Timer). AreOfOneId other timer → ⊥) (λ (other : Timer). not (has_id timer.owner id other)) timers
       (λ other none passes same. (
-        let both : Some id ≡ Some same.0 = sym is ∙ same.3 in
-        let same_id : id ≡ same.0 = cc in
-        let has : has_id timer.owner id other ≡ true =
-            and_from (nat_eq other.owner timer.owner) (option_map_or (bytes_eq id) other.id false) (eq-eqb other.owner timer.owner same.1) (ap (λ (o : Option (List ℕ)). option_map_or (bytes_eq id) o false) same.2 ∙ bytes_same id same.0 same_id) in
-        true≢false (sym has ∙ turned (has_id timer.owner id other) passes)))
+      let both : Some id ≡ Some same.0 = sym is ∙ same.3 in
+      let same_id : id ≡ same.0 = cc in
+      let has : has_id timer.owner id other ≡ true =
+      and_from (nat_eq other.owner timer.owner) (option_map_or (bytes_eq id) other.id false) (eq-eqb other.owner timer.owner same.1) (ap (λ (o : Option (List ℕ)). option_map_or (bytes_eq id) o false) same.2 ∙ bytes_same id same.0 same_id) in
+      true≢false (sym has ∙ turned (has_id timer.owner id other) passes)))
       (all timers) where
-    all : (ts : List Timer) → AllByRecursion (λ (other : Timer). ⊤) ts
-    all [] = tt
-    all (t ∷ ts) = (tt, all ts)
+        all : (ts : List Timer) → AllByRecursion (λ (other : Timer). ⊤) ts
+        all [] = tt
+        all (t ∷ ts) = (tt, all ts)
 
 -- what holds of all timers holds of those beside a new one
 beside_each : (P : Timer → Type 0) (timer : Timer) (timers : List Timer) → AllByRecursion P timers → AllByRecursion P (beside timer timers)
@@ -110,10 +107,10 @@ scheduled_sound K callers state timer sound room order fits =
     timers_sound K callers state (with_scheduled state.timers timer) (state.next_timer + 1) sound (record { numbered = omega arith; limit = omega arith })
     (leb-true (length (with_scheduled state.timers timer)) MAX_TIMERS rooms.0)
     (each_push (FitsTimer state.next_actor (state.next_timer + 1) state.actors) (beside timer state.timers) timer
-      (each_mono (FitsTimer state.next_actor state.next_timer state.actors) (FitsTimer state.next_actor (state.next_timer + 1) state.actors) (beside timer state.timers)
-      (λ other is. timer_more state.next_actor state.next_actor state.next_timer (state.next_timer + 1) state.actors state.actors other (omega arith) (omega arith) (λ runs_on. runs_on) is) old) fits)
+    (each_mono (FitsTimer state.next_actor state.next_timer state.actors) (FitsTimer state.next_actor (state.next_timer + 1) state.actors) (beside timer state.timers)
+    (λ other is. timer_more state.next_actor state.next_actor state.next_timer (state.next_timer + 1) state.actors state.actors other (omega arith) (omega arith) (λ runs_on. runs_on) is) old) fits)
     (pairs_push (λ (a b : Timer). a.order < b.order) (beside timer state.timers) timer (beside_pairs (λ (a b : Timer). a.order < b.order) timer state.timers sound.parts.timers_rise)
-      (each_mono (FitsTimer state.next_actor state.next_timer state.actors) (λ (other : Timer). other.order < timer.order) (beside timer state.timers) (λ other is. (let given = is.order in omega (arith, given.1))) old))
+    (each_mono (FitsTimer state.next_actor state.next_timer state.actors) (λ (other : Timer). other.order < timer.order) (beside timer state.timers) (λ other is. (let given = is.order in omega (arith, given.1))) old))
     (pairs_push (λ (a b : Timer). AreOfOneId a b → ⊥) (beside timer state.timers) timer (beside_pairs (λ (a b : Timer). AreOfOneId a b → ⊥) timer state.timers sound.parts.timer_ids) (beside_differs timer state.timers))
 
 -- ---- lists
@@ -171,13 +168,13 @@ module _ (definitions : OfficeDefinitions) (linked : AreLinked definitions) (cal
     mail_kind : (letter : Letter) (to : ℕ) → is_init letter ≡ false → runs state.actors to ≡ true → (a : ActorRecord) → record_in state.actors to ≡ Some a → MidKind ids a → MidKind ids (with_mail letter a)
     mail_kind letter to none runs_to a seen kind = record {
       other = λ differs. (
-        let runner = running state.actors to runs_to in
-        let same_record : Some runner.0 ≡ Some a = sym runner.1 ∙ seen in
-        let same : runner.0 ≡ a = cc in
-        kind_mail definitions letter a none (ap (λ (z : ActorRecord). is_some z.own) (sym same) ∙ runner.3) (kind.other differs));
+          let runner = running state.actors to runs_to in
+          let same_record : Some runner.0 ≡ Some a = sym runner.1 ∙ seen in
+          let same : runner.0 ≡ a = cc in
+          kind_mail definitions letter a none (ap (λ (z : ActorRecord). is_some z.own) (sym same) ∙ runner.3) (kind.other differs));
       one = λ is. (
-        let before = kind.one is in
-        record { same = before.same; no_item = before.no_item; listed = before.listed; no_init = each_push (λ (l : Letter). is_init l ≡ false) a.mailbox letter before.no_init none });
+          let before = kind.one is in
+          record { same = before.same; no_item = before.no_item; listed = before.listed; no_init = each_push (λ (l : Letter). is_init l ≡ false) a.mailbox letter before.no_init none });
     }
 
     receiver_runs : (target : To) (receiver : ℕ) → receiver_of state n target ≡ Some receiver → runs state.actors receiver ≡ true
@@ -260,13 +257,13 @@ module _ (definitions : OfficeDefinitions) (linked : AreLinked definitions) (cal
         (λ a seen kind. record {
           other = λ differs. absurd (differs (look_number number_of state.actors n a seen));
           one = λ is. (
-            let before = kind.one is in
-            record {
-              same = before.same;
-              no_item = before.no_item;
-              listed = map-append (λ (kid : List ℕ × ℕ). kid.0) a.kids ((id, state.next_actor) ∷ []) ∙ ap (λ (others : List (List ℕ)). others ++ id ∷ []) before.listed;
-              no_init = before.no_init;
-            });
+              let before = kind.one is in
+              record {
+                same = before.same;
+                no_item = before.no_item;
+                listed = map-append (λ (kid : List ℕ × ℕ). kid.0) a.kids ((id, state.next_actor) ∷ []) ∙ ap (λ (others : List (List ℕ)). others ++ id ∷ []) before.listed;
+                no_init = before.no_init;
+              });
         })
 
     grown_seen : (id : List ℕ) (fresh : ActorRecord) → fresh.number ≡ state.next_actor → fresh.kids ≡ [] → fresh.parent ≡ Some n → record_in (grown id fresh).actors state.next_actor ≡ Some fresh
@@ -289,7 +286,7 @@ module _ (definitions : OfficeDefinitions) (linked : AreLinked definitions) (cal
         let pushed = sum_push (λ (a : ActorRecord). length a.mailbox) state.actors fresh in
         let none : length fresh.mailbox ≡ 0 = ap length empty in
         let same = sum_map_le (λ (a : ActorRecord). length a.mailbox) (at number_of n (with_kid id state.next_actor)) (state.actors ++ fresh ∷ [])
-            (λ a. either_at (λ (z : ActorRecord). length z.mailbox ≤ length a.mailbox) n (with_kid id state.next_actor) a (omega arith) (omega arith)) in
+        (λ a. either_at (λ (z : ActorRecord). length z.mailbox ≤ length a.mailbox) n (with_kid id state.next_actor) a (omega arith) (omega arith)) in
         room_from (grown id fresh) 1 (omega (arith, rooms.0)) rooms.1
 
     -- a letter and a child of two records, in either order
@@ -299,17 +296,17 @@ module _ (definitions : OfficeDefinitions) (linked : AreLinked definitions) (cal
     kid_and_mail id m letter (a ∷ actors) =
         ap (λ (z : ActorRecord). z ∷ map (at number_of n (with_kid id m)) (map (at number_of m (with_mail letter)) actors)) (by_mail (nat_eq a.number m) refl)
         ∙ ap (λ (others : List ActorRecord). at number_of m (with_mail letter) (at number_of n (with_kid id m) a) ∷ others) (kid_and_mail id m letter actors) where
-      with_it : (c : Bool) → nat_eq a.number m ≡ true → (if c then with_kid id m (with_mail letter a) else with_mail letter a) ≡ at number_of m (with_mail letter) (if c then with_kid id m a else a)
-      with_it true is = sym (ap (λ (b : Bool). if b then with_mail letter (with_kid id m a) else with_kid id m a) is)
-      with_it false is = sym (ap (λ (b : Bool). if b then with_mail letter a else a) is)
+          with_it : (c : Bool) → nat_eq a.number m ≡ true → (if c then with_kid id m (with_mail letter a) else with_mail letter a) ≡ at number_of m (with_mail letter) (if c then with_kid id m a else a)
+          with_it true is = sym (ap (λ (b : Bool). if b then with_mail letter (with_kid id m a) else with_kid id m a) is)
+          with_it false is = sym (ap (λ (b : Bool). if b then with_mail letter a else a) is)
 
-      without_it : (c : Bool) → nat_eq a.number m ≡ false → (if c then with_kid id m a else a) ≡ at number_of m (with_mail letter) (if c then with_kid id m a else a)
-      without_it true is = sym (ap (λ (b : Bool). if b then with_mail letter (with_kid id m a) else with_kid id m a) is)
-      without_it false is = sym (ap (λ (b : Bool). if b then with_mail letter a else a) is)
+          without_it : (c : Bool) → nat_eq a.number m ≡ false → (if c then with_kid id m a else a) ≡ at number_of m (with_mail letter) (if c then with_kid id m a else a)
+          without_it true is = sym (ap (λ (b : Bool). if b then with_mail letter (with_kid id m a) else with_kid id m a) is)
+          without_it false is = sym (ap (λ (b : Bool). if b then with_mail letter a else a) is)
 
-      by_mail : (b : Bool) → nat_eq a.number m ≡ b → at number_of n (with_kid id m) (if b then with_mail letter a else a) ≡ at number_of m (with_mail letter) (at number_of n (with_kid id m) a)
-      by_mail true is = with_it (nat_eq a.number n) is
-      by_mail false is = without_it (nat_eq a.number n) is
+          by_mail : (b : Bool) → nat_eq a.number m ≡ b → at number_of n (with_kid id m) (if b then with_mail letter a else a) ≡ at number_of m (with_mail letter) (at number_of n (with_kid id m) a)
+          by_mail true is = with_it (nat_eq a.number n) is
+          by_mail false is = without_it (nat_eq a.number n) is
 
     machine_spawned : (id : List ℕ) (input : Value) (system : Option (List ℕ)) (machine : ℕ) → machine < length definitions.machines → is_short input ≡ true → IfSome system (λ name. IsTrue (is_name name))
         → list_any (bytes_eq id) ids ≡ false → is_name_held state system ≡ false → has_actor_room state ≡ true → has_letter_room state 1 ≡ true → has_level_below state n ≡ true
@@ -319,12 +316,12 @@ module _ (definitions : OfficeDefinitions) (linked : AreLinked definitions) (cal
         let letter : Letter = new_letter (with_record state fresh) (origin.Actor n) (init_event input) in
         let given : IsGiven state.next_actor n = stepping_given in
         let sound : Sound (MidKind (ids ++ id ∷ [])) callers (with_letter (grown id fresh) (origin.Actor n) state.next_actor (init_event input)) =
-            begin_sound (MidKind (ids ++ id ∷ [])) callers (grown id fresh) state.next_actor fresh (origin.Actor n) input
-            (grown_sound id fresh room free level refl refl refl refl (stands_fresh state.next_actor (Some n) system (Some (fresh_own machine)) None named))
-            (grown_seen id fresh refl refl refl) refl refl (given.0, omega (arith, given.1)) short (grown_room id fresh refl letters)
-            (record { other = λ differs. kind_begins definitions state.next_actor (Some n) system machine letter below_count (init_begins input); one = λ same. absurd (omega (arith, given.1)) }) in
+        begin_sound (MidKind (ids ++ id ∷ [])) callers (grown id fresh) state.next_actor fresh (origin.Actor n) input
+        (grown_sound id fresh room free level refl refl refl refl (stands_fresh state.next_actor (Some n) system (Some (fresh_own machine)) None named))
+        (grown_seen id fresh refl refl refl) refl refl (given.0, omega (arith, given.1)) short (grown_room id fresh refl letters)
+        (record { other = λ differs. kind_begins definitions state.next_actor (Some n) system machine letter below_count (init_begins input); one = λ same. absurd (omega (arith, given.1)) }) in
         let same : with_letter (grown id fresh) (origin.Actor n) state.next_actor (init_event input) ≡ with_actor (with_machine state (origin.Actor n) (Some n) machine input system) n (with_kid id state.next_actor) =
-            ap (λ (actors : List ActorRecord). record (with_record state fresh) { actors = actors; next_letter = state.next_letter + 1 }) (sym (kid_and_mail id state.next_actor letter (state.actors ++ fresh ∷ []))) in
+        ap (λ (actors : List ActorRecord). record (with_record state fresh) { actors = actors; next_letter = state.next_letter + 1 }) (sym (kid_and_mail id state.next_actor letter (state.actors ++ fresh ∷ []))) in
         record {
           sound = subst (Sound (MidKind (ids ++ id ∷ [])) callers) same sound;
           runner = subst (λ (after : OfficeState). runs after.actors n ≡ true) same (runs_mail letter (grown id fresh).actors state.next_actor n ∙ grown_runs id fresh refl refl refl);
@@ -358,8 +355,8 @@ module _ (definitions : OfficeDefinitions) (linked : AreLinked definitions) (cal
       by_machine logic row free room level None is letters = item_spawned id logic.name input system spawn.short spawn.system_name spawn.free free room level
       by_machine logic row free room level (Some machine) is letters =
           let fits : IfSome logic.machine (λ m. m < length definitions.machines) =
-              get_each (λ (l : ActorLogic). IfSome l.machine (λ m. m < length definitions.machines)) definitions.actors src logic
-              (recursion_from_All (λ (l : ActorLogic). IfSome l.machine (λ m. m < length definitions.machines)) definitions.actors linked) row in
+          get_each (λ (l : ActorLogic). IfSome l.machine (λ m. m < length definitions.machines)) definitions.actors src logic
+          (recursion_from_All (λ (l : ActorLogic). IfSome l.machine (λ m. m < length definitions.machines)) definitions.actors linked) row in
           let below_count : machine < length definitions.machines = subst (λ (o : Option ℕ). IfSome o (λ m. m < length definitions.machines)) is fits in
           machine_spawned id input system machine below_count spawn.short spawn.system_name spawn.free free room letters level
 
@@ -375,13 +372,13 @@ module _ (definitions : OfficeDefinitions) (linked : AreLinked definitions) (cal
 
       by_room : (logic : ActorLogic) → slice_get definitions.actors src ≡ Some logic → is_name_held state system ≡ false → (b : Bool) → has_actor_room state ≡ b
           → MidFits (ids ++ id ∷ []) (if not b then Err ActorsFull else if not (has_letter_room state (first_letters logic)) then Err LettersFull else if not (has_level_below state n) then Err TooDeep
-            else Ok (with_actor (with_logic state n logic input system) n (with_kid id state.next_actor)))
+          else Ok (with_actor (with_logic state n logic input system) n (with_kid id state.next_actor)))
       by_room logic row free true room = by_letters logic row free room (has_letter_room state (first_letters logic)) refl
       by_room logic row free false room = tt
 
       by_name : (logic : ActorLogic) → slice_get definitions.actors src ≡ Some logic → (b : Bool) → is_name_held state system ≡ b
           → MidFits (ids ++ id ∷ []) (if b then Err NameHeld else if not (has_actor_room state) then Err ActorsFull else if not (has_letter_room state (first_letters logic)) then Err LettersFull else if not (has_level_below state n) then Err TooDeep
-            else Ok (with_actor (with_logic state n logic input system) n (with_kid id state.next_actor)))
+          else Ok (with_actor (with_logic state n logic input system) n (with_kid id state.next_actor)))
       by_name logic row true free = tt
       by_name logic row false free = by_room logic row free (has_actor_room state) refl
 
@@ -399,7 +396,7 @@ module _ (definitions : OfficeDefinitions) (linked : AreLinked definitions) (cal
         let before = (each_look number_of (MidKind ids) state.actors mid.sound.kinds n runner.0 runner.1).one at_n in
         let found = found_among id runner.0.kids (ap (list_any (bytes_eq id)) before.listed ∙ held) in
         let differ : Pairs (λ (a b : List ℕ × ℕ). a.0 ≢ b.0) runner.0.kids =
-            map_pairs (λ (a b : List ℕ). a ≢ b) (λ (kid : List ℕ × ℕ). kid.0) runner.0.kids (subst (Pairs (λ (a b : List ℕ). a ≢ b)) (sym before.listed) mid.differ) in
+        map_pairs (λ (a b : List ℕ). a ≢ b) (λ (kid : List ℕ × ℕ). kid.0) runner.0.kids (subst (Pairs (λ (a b : List ℕ). a ≢ b)) (sym before.listed) mid.differ) in
         let child : child_of state n id ≡ Some found.0 = ap (option_and_then (λ (actor : ActorRecord). lookup (bytes_eq id) actor.kids)) runner.1 ∙ found.1 in
         let left : List (List ℕ) = filter (λ (other : List ℕ). not (bytes_eq other id)) ids in
         let stopped : MidSound left (with_actor (removed found.0 state) n (without_kid id)) = record {
@@ -408,12 +405,12 @@ module _ (definitions : OfficeDefinitions) (linked : AreLinked definitions) (cal
               (λ a seen kind. record {
                 other = λ differs. absurd (differs (look_number number_of state.actors n a seen));
                 one = λ is. (
-                  let was = kind.one is in
-                  record { same = was.same; no_item = was.no_item; listed = ids_left id a.kids ∙ ap (filter (λ (other : List ℕ). not (bytes_eq other id))) was.listed; no_init = was.no_init });
+                    let was = kind.one is in
+                    record { same = was.same; no_item = was.no_item; listed = ids_left id a.kids ∙ ap (filter (λ (other : List ℕ). not (bytes_eq other id))) was.listed; no_init = was.no_init });
               });
           runner = runs_from (with_actor (removed found.0 state) n (without_kid id)).actors n (at number_of n (without_kid id) runner.0)
               (stopped_seen state.next_actor state.actors mid.sound.tree n runner.0 id found.0 runner.1 differ found.1 n runner.0 runner.1
-                (parent_stays state.next_actor state.actors mid.sound.tree n runner.0 id found.0 runner.1 differ found.1))
+              (parent_stays state.next_actor state.actors mid.sound.tree n runner.0 id found.0 runner.1 differ found.1))
               (at_same number_of is_active n (without_kid id) (λ a. refl) runner.0 ∙ runner.2)
               (at_same number_of (λ (z : ActorRecord). is_some z.own) n (without_kid id) (λ a. refl) runner.0 ∙ runner.3);
           differ = pairs_filter (λ (a b : List ℕ). a ≢ b) (λ (other : List ℕ). not (bytes_eq other id)) ids mid.differ;
@@ -433,7 +430,7 @@ module _ (definitions : OfficeDefinitions) (linked : AreLinked definitions) (cal
   effects_fit [] ids state mid allowed = mid
   effects_fit (first ∷ others) ids state mid allowed =
       next_fits (after_effect definitions n first state) (effect_fits ids state mid first allowed.0) (λ after is. effects_fit others (children_after ids first) after is allowed.1) where
-    next_fits : (x : Fitted) → MidFits (children_after ids first) x → ((after : OfficeState) → MidSound (children_after ids first) after → MidFits (fold children_after (children_after ids first) others) (after_effects definitions n others after))
-        → MidFits (fold children_after (children_after ids first) others) (x >>= after_effects definitions n others)
-    next_fits (Ok after) is rest = rest after is
-    next_fits (Err name) is rest = tt
+        next_fits : (x : Fitted) → MidFits (children_after ids first) x → ((after : OfficeState) → MidSound (children_after ids first) after → MidFits (fold children_after (children_after ids first) others) (after_effects definitions n others after))
+            → MidFits (fold children_after (children_after ids first) others) (x >>= after_effects definitions n others)
+        next_fits (Ok after) is rest = rest after is
+        next_fits (Err name) is rest = tt

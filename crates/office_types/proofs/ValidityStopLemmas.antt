@@ -64,19 +64,19 @@ pub only_id : (id : List ℕ) (x : ℕ) (kids : List (List ℕ × ℕ)) → coun
 only_id id x [] once found = tt
 only_id id x (kid ∷ kids) once found =
     by_test (only_id id x kids) (sum_by-cons (λ (k : List ℕ × ℕ). cond (is_kid x k) 1 0) kid kids) (bytes_eq id kid.0) refl found (is_kid x kid) refl where
-  by_test : (count_by (is_kid x) kids ≡ 1 → lookup (bytes_eq id) kids ≡ Some x → AllByRecursion (λ (kid : List ℕ × ℕ). kid.1 ≡ x → bytes_eq kid.0 id ≡ true) kids)
-      → count_by (is_kid x) (kid ∷ kids) ≡ cond (is_kid x kid) 1 0 + count_by (is_kid x) kids
-      → (b : Bool) → bytes_eq id kid.0 ≡ b → cond b (Some kid.1) (lookup (bytes_eq id) kids) ≡ Some x → (c : Bool) → is_kid x kid ≡ c
-      → AllByRecursion (λ (kid : List ℕ × ℕ). kid.1 ≡ x → bytes_eq kid.0 id ≡ true) (kid ∷ kids)
-  by_test rest whole true is found true counted = (
-    λ same. bytes_same kid.0 id (sym (same_bytes id kid.0 is)),
-    each_mono (λ (other : List ℕ × ℕ). is_kid x other ≡ false) (λ (other : List ℕ × ℕ). other.1 ≡ x → bytes_eq other.0 id ≡ true) kids (λ other none same. absurd (eqb-false other.1 x none same))
-        (none_counted (is_kid x) kids (omega (arith, ap {B = ℕ} (λ (b : Bool). cond b 1 0) counted))),
-  )
-  by_test rest whole true is found false counted = let same : kid.1 ≡ x = cc in absurd (eqb-false kid.1 x counted same)
-  by_test rest whole false is found true counted = absurd (omega (arith, counts_found id x kids found, ap {B = ℕ} (λ (b : Bool). cond b 1 0) counted))
-  by_test rest whole false is found false counted =
-      (λ same. absurd (eqb-false kid.1 x counted same), rest (omega (arith, ap {B = ℕ} (λ (b : Bool). cond b 1 0) counted)) found)
+      by_test : (count_by (is_kid x) kids ≡ 1 → lookup (bytes_eq id) kids ≡ Some x → AllByRecursion (λ (kid : List ℕ × ℕ). kid.1 ≡ x → bytes_eq kid.0 id ≡ true) kids)
+          → count_by (is_kid x) (kid ∷ kids) ≡ cond (is_kid x kid) 1 0 + count_by (is_kid x) kids
+          → (b : Bool) → bytes_eq id kid.0 ≡ b → cond b (Some kid.1) (lookup (bytes_eq id) kids) ≡ Some x → (c : Bool) → is_kid x kid ≡ c
+          → AllByRecursion (λ (kid : List ℕ × ℕ). kid.1 ≡ x → bytes_eq kid.0 id ≡ true) (kid ∷ kids)
+      by_test rest whole true is found true counted = (
+        λ same. bytes_same kid.0 id (sym (same_bytes id kid.0 is)),
+        each_mono (λ (other : List ℕ × ℕ). is_kid x other ≡ false) (λ (other : List ℕ × ℕ). other.1 ≡ x → bytes_eq other.0 id ≡ true) kids (λ other none same. absurd (eqb-false other.1 x none same))
+            (none_counted (is_kid x) kids (omega (arith, ap {B = ℕ} (λ (b : Bool). cond b 1 0) counted))),
+      )
+      by_test rest whole true is found false counted = let same : kid.1 ≡ x = cc in absurd (eqb-false kid.1 x counted same)
+      by_test rest whole false is found true counted = absurd (omega (arith, counts_found id x kids found, ap {B = ℕ} (λ (b : Bool). cond b 1 0) counted))
+      by_test rest whole false is found false counted =
+          (λ same. absurd (eqb-false kid.1 x counted same), rest (omega (arith, ap {B = ℕ} (λ (b : Bool). cond b 1 0) counted)) found)
 
 -- ---- the tree without the child
 
@@ -118,9 +118,9 @@ module _ (next : ℕ) (actors : List ActorRecord) (tree : Tree next actors) (n :
   pub stopped_parent : (m : ℕ) → is_among gone m ≡ false → parent_in without_child_in m ≡ parent_in actors m
   stopped_parent m kept =
       ap (option_and_then (λ (z : ActorRecord). z.parent)) (looks m ∙ ap (λ (b : Bool). option_map release (if not b then record_in actors m else None)) kept) ∙ by_record (record_in actors m) where
-    by_record : (o : Option ActorRecord) → option_and_then (λ (z : ActorRecord). z.parent) (option_map release o) ≡ option_and_then (λ (z : ActorRecord). z.parent) o
-    by_record None = refl
-    by_record (Some a) = same_parent a
+        by_record : (o : Option ActorRecord) → option_and_then (λ (z : ActorRecord). z.parent) (option_map release o) ≡ option_and_then (λ (z : ActorRecord). z.parent) o
+        by_record None = refl
+        by_record (Some a) = same_parent a
 
   -- the parent of one that stays stays
   up_stays : (m : ℕ) (a : ActorRecord) (p : ℕ) → record_in actors m ≡ Some a → a.parent ≡ Some p → is_among gone m ≡ false → is_among gone p ≡ false
@@ -135,9 +135,9 @@ module _ (next : ℕ) (actors : List ActorRecord) (tree : Tree next actors) (n :
     | inl is ↦ elim (below_cases actors (x ∷ []) c tree.rise is) [
       | inl first ↦ absurd (other (among_one x c first))
       | inr (a, p, there, up, among) ↦ absurd (
-        let same : Some m ≡ Some p = sym its_parent ∙ ap (option_and_then (λ (z : ActorRecord). z.parent)) there ∙ up in
-        let same_p : m ≡ p = cc in
-        true≢false (sym among ∙ ap (is_among gone) (sym same_p) ∙ kept))
+          let same : Some m ≡ Some p = sym its_parent ∙ ap (option_and_then (λ (z : ActorRecord). z.parent)) there ∙ up in
+          let same_p : m ≡ p = cc in
+          true≢false (sym among ∙ ap (is_among gone) (sym same_p) ∙ kept))
     ]
     | inr is ↦ is
   ]
@@ -150,9 +150,9 @@ module _ (next : ℕ) (actors : List ActorRecord) (tree : Tree next actors) (n :
   pub parent_stays : is_among gone n ≡ false
   parent_stays = elim (cases_Bool (is_among gone n)) [
     | inl is ↦ absurd (
-      let less : n < x = parent_smaller next actors tree x n child_parent in
-      let from : x ≤ n = below_from actors (x ∷ []) x (parents_smaller next actors tree) (λ m first. (let same : m ≡ x = among_one x m first in omega arith)) n is in
-      omega arith)
+        let less : n < x = parent_smaller next actors tree x n child_parent in
+        let from : x ≤ n = below_from actors (x ∷ []) x (parents_smaller next actors tree) (λ m first. (let same : m ≡ x = among_one x m first in omega arith)) n is in
+        omega arith)
     | inr is ↦ is
   ]
 
@@ -183,10 +183,10 @@ module _ (next : ℕ) (actors : List ActorRecord) (tree : Tree next actors) (n :
         let same_record : Some a ≡ Some parent = sym there ∙ ap (record_in actors) at_n ∙ seen in
         let same : a ≡ parent = cc in
         let whose : AllByRecursion (λ (kid : List ℕ × ℕ). bytes_eq kid.0 id ≡ true → kid.1 ≡ x) a.kids =
-            subst (λ (z : ActorRecord). AllByRecursion (λ (kid : List ℕ × ℕ). bytes_eq kid.0 id ≡ true → kid.1 ≡ x) z.kids) (sym same) (only_kid id x parent.kids differ found) in
+        subst (λ (z : ActorRecord). AllByRecursion (λ (kid : List ℕ × ℕ). bytes_eq kid.0 id ≡ true → kid.1 ≡ x) z.kids) (sym same) (only_kid id x parent.kids differ found) in
         count_passing (is_kid c) (λ (kid : List ℕ × ℕ). not (bytes_eq kid.0 id)) a.kids
-            (each_mono (λ (kid : List ℕ × ℕ). bytes_eq kid.0 id ≡ true → kid.1 ≡ x) (λ (kid : List ℕ × ℕ). not (bytes_eq kid.0 id) ≡ false → is_kid c kid ≡ false) a.kids
-            (λ kid whose left. ne_eqb kid.1 c (λ e. true≢false (sym child_gone ∙ ap (is_among gone) (sym (whose (turned (bytes_eq kid.0 id) left)) ∙ e) ∙ kept))) whose)
+        (each_mono (λ (kid : List ℕ × ℕ). bytes_eq kid.0 id ≡ true → kid.1 ≡ x) (λ (kid : List ℕ × ℕ). not (bytes_eq kid.0 id) ≡ false → is_kid c kid ≡ false) a.kids
+        (λ kid whose left. ne_eqb kid.1 c (λ e. true≢false (sym child_gone ∙ ap (is_among gone) (sym (whose (turned (bytes_eq kid.0 id) left)) ∙ e) ∙ kept))) whose)
     by_test false is = refl
 
   kids_stay : (m : ℕ) (a : ActorRecord) → record_in actors m ≡ Some a → is_among gone m ≡ false → AllByRecursion (λ (kid : List ℕ × ℕ). parent_in without_child_in kid.1 ≡ Some m) (release a).kids
@@ -197,17 +197,17 @@ module _ (next : ℕ) (actors : List ActorRecord) (tree : Tree next actors) (n :
         let same_record : Some a ≡ Some parent = sym there ∙ ap (record_in actors) at_n ∙ seen in
         let same : a ≡ parent = cc in
         let whose : AllByRecursion (λ (kid : List ℕ × ℕ). kid.1 ≡ x → bytes_eq kid.0 id ≡ true) a.kids =
-            subst (λ (z : ActorRecord). AllByRecursion (λ (kid : List ℕ × ℕ). kid.1 ≡ x → bytes_eq kid.0 id ≡ true) z.kids) (sym same) (only_id id x parent.kids listed_once found) in
+        subst (λ (z : ActorRecord). AllByRecursion (λ (kid : List ℕ × ℕ). kid.1 ≡ x → bytes_eq kid.0 id ≡ true) z.kids) (sym same) (only_id id x parent.kids listed_once found) in
         each_passing (λ (kid : List ℕ × ℕ). (parent_in actors kid.1 ≡ Some m) × (kid.1 ≡ x → bytes_eq kid.0 id ≡ true)) (λ (kid : List ℕ × ℕ). parent_in without_child_in kid.1 ≡ Some m)
-            (λ (kid : List ℕ × ℕ). not (bytes_eq kid.0 id)) a.kids
-            (λ kid facts left. stopped_parent kid.1 (down_stays m kid.1 facts.0 kept (λ e. true≢false (sym (facts.1 e) ∙ passing (bytes_eq kid.0 id) left))) ∙ facts.0)
-            (each_both (λ (kid : List ℕ × ℕ). parent_in actors kid.1 ≡ Some m) (λ (kid : List ℕ × ℕ). kid.1 ≡ x → bytes_eq kid.0 id ≡ true) a.kids (tree.kids m a there) whose)
+        (λ (kid : List ℕ × ℕ). not (bytes_eq kid.0 id)) a.kids
+        (λ kid facts left. stopped_parent kid.1 (down_stays m kid.1 facts.0 kept (λ e. true≢false (sym (facts.1 e) ∙ passing (bytes_eq kid.0 id) left))) ∙ facts.0)
+        (each_both (λ (kid : List ℕ × ℕ). parent_in actors kid.1 ≡ Some m) (λ (kid : List ℕ × ℕ). kid.1 ≡ x → bytes_eq kid.0 id ≡ true) a.kids (tree.kids m a there) whose)
     by_test false is =
         each_mono (λ (kid : List ℕ × ℕ). parent_in actors kid.1 ≡ Some m) (λ (kid : List ℕ × ℕ). parent_in without_child_in kid.1 ≡ Some m) a.kids
         (λ kid up. stopped_parent kid.1 (down_stays m kid.1 up kept (λ e. (
-          let both : Some n ≡ Some m = sym child_parent ∙ ap (parent_in actors) (sym e) ∙ up in
-          let same : n ≡ m = cc in
-          eqb-false a.number n is (look_number number_of actors m a there ∙ sym same)))) ∙ up)
+        let both : Some n ≡ Some m = sym child_parent ∙ ap (parent_in actors) (sym e) ∙ up in
+        let same : n ≡ m = cc in
+        eqb-false a.number n is (look_number number_of actors m a there ∙ sym same)))) ∙ up)
         (tree.kids m a there)
 
   above : (m : ℕ) (a : ActorRecord) (p : ℕ) → record_in actors m ≡ Some a → is_among gone m ≡ false → a.parent ≡ Some p → Child without_child_in (release a) p
@@ -232,14 +232,14 @@ module _ (next : ℕ) (actors : List ActorRecord) (tree : Tree next actors) (n :
         (λ z given. (omega (arith, given.0, same_number z), omega (arith, given.1, same_number z)))
         (each_filter (λ (z : ActorRecord). IsGiven next z.number) (λ (actor : ActorRecord). not (is_among gone actor.number)) actors tree.given));
     parents = λ m b p there up. (
-      let before = stopped_cases m b there in
-      subst (λ (z : ActorRecord). Child without_child_in z p) before.3 (above m before.0 p before.1 before.2 (sym (same_parent before.0) ∙ ap (λ (z : ActorRecord). z.parent) before.3 ∙ up)));
+        let before = stopped_cases m b there in
+        subst (λ (z : ActorRecord). Child without_child_in z p) before.3 (above m before.0 p before.1 before.2 (sym (same_parent before.0) ∙ ap (λ (z : ActorRecord). z.parent) before.3 ∙ up)));
     kids = λ m b there. (
-      let before = stopped_cases m b there in
-      subst (λ (z : ActorRecord). AllByRecursion (λ (kid : List ℕ × ℕ). parent_in without_child_in kid.1 ≡ Some m) z.kids) before.3 (kids_stay m before.0 before.1 before.2));
+        let before = stopped_cases m b there in
+        subst (λ (z : ActorRecord). AllByRecursion (λ (kid : List ℕ × ℕ). parent_in without_child_in kid.1 ≡ Some m) z.kids) before.3 (kids_stay m before.0 before.1 before.2));
     levels = λ m b there. (
-      let before = stopped_cases m b there in
-      within_same (λ (k : ℕ). is_among gone k ≡ false) actors without_child_in
-          (λ k p kept up. (let a = chained (λ (z : ActorRecord). z.parent) (record_in actors k) p up in up_stays k a.0 p a.1 a.2 kept)) stopped_parent 16 m before.2
-      ∙ tree.levels m before.0 before.1);
+        let before = stopped_cases m b there in
+        within_same (λ (k : ℕ). is_among gone k ≡ false) actors without_child_in
+        (λ k p kept up. (let a = chained (λ (z : ActorRecord). z.parent) (record_in actors k) p up in up_stays k a.0 p a.1 a.2 kept)) stopped_parent 16 m before.2
+        ∙ tree.levels m before.0 before.1);
   }

@@ -1,14 +1,13 @@
 -- A step with an outcome that the rules allow keeps an office valid.
-use Rattle.std.proofs.Common.{◌≡◌, ◌≢◌, ◌⊎◌, inl, inr, ℕ, suc, zero, ◌+◌, ◌<◌, ◌≤◌, Bool, true, false, cond, not, ◌&&◌, true≢false, List, [], ◌∷◌, ◌++◌, length, map, drop, refl, sym, ap, subst, ◌∙◌, arith}
-use Rattle.std.specs.Prelude.{Option, None, Some, is_some, find, fold, nat_eq, nat_lt, IsTrue, All, MatchBool, Result, Ok, Err, if◌then◌else◌, ⊤}
+use Rattle.std.proofs.Common.{◌≡◌, ◌≢◌, inl, inr, ℕ, ◌<◌, Bool, true, false, ◌&&◌, true≢false, List, [], ◌∷◌, length, map, drop, refl, sym, ap, subst, ◌∙◌}
+use Rattle.std.specs.Prelude.{Option, None, Some, is_some, fold, nat_eq, nat_lt, MatchBool, Ok, Err, if◌then◌else◌, ⊤}
 use Rattle.std.specs.List.{AllByRecursion}
-use Rattle.std.specs.Option.{option_and_then, option_map, option_map_or}
+use Rattle.std.specs.Option.{option_and_then, option_map_or}
 use Rattle.std.specs.Result.{result_unwrap_or}
 use Rattle.std.proofs.lemmas.Bool.{and_parts, eqb-true, eqb-false}
 use Rattle.std.proofs.lemmas.List.Elements.{All-from_recursion, recursion_from_All}
 use Rattle.xs_model.specs.declared.value.Value.{Value}
 use Rattle.xs_model.specs.declared.value.Value.TheVariants as value
-use Rattle.office_types.specs.declared.limits.TheConstants.{MAX_ENTRIES}
 use Rattle.office_types.specs.declared.office.ActorRecord.{ActorRecord}
 use Rattle.office_types.specs.declared.office.Caller.{Caller}
 use Rattle.office_types.specs.declared.office.Item.{Item}
@@ -17,7 +16,6 @@ use Rattle.office_types.specs.declared.office.OfficeState.{OfficeState}
 use Rattle.office_types.specs.declared.outcome.Effect.{Effect}
 use Rattle.office_types.specs.declared.outcome.End.{End}
 use Rattle.office_types.specs.declared.outcome.End.TheVariants as end
-use Rattle.office_types.specs.declared.outcome.FaultName.{FaultName}
 use Rattle.office_types.specs.declared.outcome.Outcome.{Outcome}
 use Rattle.office_types.specs.declared.outcome.Own.{Own}
 use Rattle.office_types.specs.Definitions.{AreLinked, OfficeDefinitions, nodes_of}
@@ -28,13 +26,13 @@ use Rattle.office_types.specs.Fitting.{Fitted, ◌>>=◌}
 use Rattle.office_types.specs.Laws.{StepsKeepValidity}
 use Rattle.office_types.specs.Limits.{is_event, is_short}
 use Rattle.office_types.specs.Mailboxes.{without_head}
-use Rattle.office_types.specs.Observation.{after_observation, is_observed, own_of, short_snapshot_event, snapshot_of}
-use Rattle.office_types.specs.Outcomes.{AreAllowedEffects, IsAllowedBy, IsAllowedOutcome, IsThrough, IsUndone, children_after}
-use Rattle.office_types.specs.OwnParts.{AreChildIds, HasBegun, IsOwnPart}
-use Rattle.office_types.specs.Records.{is_active, is_ready, is_ready_actor, parent_of, record_of}
-use Rattle.office_types.specs.Step.{after_conclusion, after_outcome, or_failure, took, with_entry, with_own}
-use Rattle.office_types.specs.ValidOffice.{HasInitAsHead, HasItsInit, HasNoInit, IsMachineActor, IsOfOneKind, is_init}
-use Rattle.office_types.proofs.ValidityListLemmas.{Pairs, at, at_number, at_same, each_look, look_map, look_number, pairs_from}
+use Rattle.office_types.specs.Observation.{after_observation, is_observed, short_snapshot_event, snapshot_of}
+use Rattle.office_types.specs.Outcomes.{IsAllowedBy, IsAllowedOutcome, IsThrough, IsUndone, children_after}
+use Rattle.office_types.specs.OwnParts.{HasBegun, IsOwnPart}
+use Rattle.office_types.specs.Records.{is_active, is_ready, is_ready_actor, record_of}
+use Rattle.office_types.specs.Step.{after_conclusion, after_outcome, or_failure, took, with_own}
+use Rattle.office_types.specs.ValidOffice.{HasInitAsHead, HasItsInit, HasNoInit, IsOfOneKind, is_init}
+use Rattle.office_types.proofs.ValidityListLemmas.{Pairs, at, at_number, at_same, each_look, look_number, pairs_from}
 use Rattle.office_types.proofs.ValidityTreeLemmas.{given_in, number_of, record_in}
 use Rattle.office_types.proofs.ValidityPartLemmas.{running, runs, runs_from, runs_map}
 use Rattle.office_types.proofs.ValidityLemmas.{CallerRules, Kind, Sound, caller_rules, sound_from, valid_from}
@@ -86,17 +84,17 @@ module _ (definitions : OfficeDefinitions) (callers : List Caller) (n : ℕ) (ow
       let actor = running state.actors n runner in
       let over : OfficeState = after_end (error_record error) n state in
       let ended = ended_sound definitions TakenKind callers state n actor.0 (error_record error) sound actor.1 actor.2 (λ a. refl) (λ a. refl) (λ a. refl) (λ a. refl) (λ a. refl) (λ a. refl)
-          (λ a active stands. stands_error error a active short stands) (λ a same kind. over_from definitions own error a (kind.one same)) (λ a differs kind. kind.other differs) in
+      (λ a active stands. stands_error error a active short stands) (λ a same kind. over_from definitions own error a (kind.one same)) (λ a differs kind. kind.other differs) in
       let given = given_after definitions TakenKind callers state n actor.0 (error_record error) sound actor.1 actor.2 (λ a. refl) (λ a. refl) (λ a. refl) (λ a. refl) (λ a. refl) (λ a. refl)
-          (λ a active stands. stands_error error a active short stands) (λ a same kind. over_from definitions own error a (kind.one same)) (λ a differs kind. kind.other differs) in
+      (λ a active stands. stands_error error a active short stands) (λ a same kind. over_from definitions own error a (kind.one same)) (λ a differs kind. kind.other differs) in
       let parents = parent_runs_after definitions TakenKind callers state n actor.0 (error_record error) sound actor.1 actor.2 (λ a. refl) (λ a. refl) (λ a. refl) (λ a. refl) (λ a. refl) (λ a. refl)
-          (λ a active stands. stands_error error a active short stands) (λ a same kind. over_from definitions own error a (kind.one same)) (λ a differs kind. kind.other differs) in
+      (λ a active stands. stands_error error a active short stands) (λ a same kind. over_from definitions own error a (kind.one same)) (λ a differs kind. kind.other differs) in
       by_told (after_telling_parent over n (error_event error)) ended
       (λ after is. told_if_room definitions callers over n (error_event error) ended given (λ id. error_is_event error id short) (error_begins_none error) parents after is) where
-    by_told : (x : Fitted) → Sound (Kind definitions) callers (after_end (error_record error) n state) → ((after : OfficeState) → x ≡ Ok after → Sound (Kind definitions) callers after)
-        → Sound (Kind definitions) callers (result_unwrap_or x (after_end (error_record error) n state))
-    by_told (Ok after) ended told = told after refl
-    by_told (Err name) ended told = ended
+        by_told : (x : Fitted) → Sound (Kind definitions) callers (after_end (error_record error) n state) → ((after : OfficeState) → x ≡ Ok after → Sound (Kind definitions) callers after)
+            → Sound (Kind definitions) callers (result_unwrap_or x (after_end (error_record error) n state))
+        by_told (Ok after) ended told = told after refl
+        by_told (Err name) ended told = ended
 
 -- ---- conclusions
 
@@ -141,11 +139,11 @@ module _ (definitions : OfficeDefinitions) (callers : List Caller) (n : ℕ) (st
       let actor = running state.actors n runner in
       let over : OfficeState = after_end (done_record output) n state in
       let ended = ended_sound definitions (Kind definitions) callers state n actor.0 (done_record output) sound actor.1 actor.2 (λ a. refl) (λ a. refl) (λ a. refl) (λ a. refl) (λ a. refl) (λ a. refl)
-          (λ a active stands. stands_done output a active short stands) (λ a same kind. kind_over definitions a (done_record output a) refl refl refl refl refl refl kind) (λ a differs kind. kind) in
+      (λ a active stands. stands_done output a active short stands) (λ a same kind. kind_over definitions a (done_record output a) refl refl refl refl refl refl kind) (λ a differs kind. kind) in
       let given = given_after definitions (Kind definitions) callers state n actor.0 (done_record output) sound actor.1 actor.2 (λ a. refl) (λ a. refl) (λ a. refl) (λ a. refl) (λ a. refl) (λ a. refl)
-          (λ a active stands. stands_done output a active short stands) (λ a same kind. kind_over definitions a (done_record output a) refl refl refl refl refl refl kind) (λ a differs kind. kind) in
+      (λ a active stands. stands_done output a active short stands) (λ a same kind. kind_over definitions a (done_record output a) refl refl refl refl refl refl kind) (λ a differs kind. kind) in
       let parents = parent_runs_after definitions (Kind definitions) callers state n actor.0 (done_record output) sound actor.1 actor.2 (λ a. refl) (λ a. refl) (λ a. refl) (λ a. refl) (λ a. refl) (λ a. refl)
-          (λ a active stands. stands_done output a active short stands) (λ a same kind. kind_over definitions a (done_record output a) refl refl refl refl refl refl kind) (λ a differs kind. kind) in
+      (λ a active stands. stands_done output a active short stands) (λ a same kind. kind_over definitions a (done_record output a) refl refl refl refl refl refl kind) (λ a differs kind. kind) in
       fits_from definitions callers (after_telling_parent over n (done_event output))
       (told_if_room definitions callers over n (done_event output) ended given (λ id. done_is_event output id short) (done_begins_none output) parents)
 
@@ -157,9 +155,9 @@ module _ (definitions : OfficeDefinitions) (linked : AreLinked definitions) (cal
   part_runs =
       runs_map (at number_of n (λ (a : ActorRecord). record a { own = Some outcome.own })) taken.actors (at_number number_of n (λ (a : ActorRecord). record a { own = Some outcome.own }) (λ a. refl)) n
       (λ a seen active is. (at_same number_of is_active n (λ (z : ActorRecord). record z { own = Some outcome.own }) (λ z. refl) a ∙ active, by_test a is (nat_eq a.number n))) runner where
-    by_test : (a : ActorRecord) → is_some a.own ≡ true → (b : Bool) → is_some (if b then record a { own = Some outcome.own } else a).own ≡ true
-    by_test a is true = refl
-    by_test a is false = is
+        by_test : (a : ActorRecord) → is_some a.own ≡ true → (b : Bool) → is_some (if b then record a { own = Some outcome.own } else a).own ≡ true
+        by_test a is true = refl
+        by_test a is false = is
 
   -- the own part in place, before any effect
   begun_mid : IsThrough definitions own outcome → Pairs (λ (a b : List ℕ). a ≢ b) own.children → MidSound definitions linked callers n outcome.own own.children (with_own n outcome.own taken)
@@ -178,40 +176,40 @@ module _ (definitions : OfficeDefinitions) (linked : AreLinked definitions) (cal
   whole : IsThrough definitions own outcome → own.def < length definitions.machines → (state : OfficeState) → MidSound definitions linked callers n outcome.own (fold children_after own.children outcome.effects) state → Sound (Kind definitions) callers state
   whole through below_count state mid =
       sound_kinds (MidKind definitions linked callers n outcome.own (fold children_after own.children outcome.effects)) (Kind definitions) callers state (λ a kind. by_number a kind (nat_eq a.number n) refl) mid.sound where
-    its_kind : (a : ActorRecord) → Mid outcome.own (fold children_after own.children outcome.effects) a → Kind definitions a
-    its_kind a is =
-        subst (λ (o : Option Own). IsOfOneKind definitions a o a.item) (sym is.same) (subst (λ (i : Option Item). IsOfOneKind definitions a (Some outcome.own) i) (sym is.no_item) (record {
-          machine = subst (λ (m : ℕ). m < length definitions.machines) (sym through.machine) below_count;
-          part = inr (subst (λ (m : ℕ). HasBegun (nodes_of definitions m) outcome.own) (sym through.machine) through.begun);
-          kids = is.listed ∙ sym through.children;
-          init = λ active. subst (λ (b : Bool). MatchBool b (HasNoInit a.mailbox) (HasInitAsHead a.mailbox)) (sym through.begun.begun)
-              (All-from_recursion (λ (letter : Letter). is_init letter ≡ false) a.mailbox is.no_init);
-        }))
+        its_kind : (a : ActorRecord) → Mid outcome.own (fold children_after own.children outcome.effects) a → Kind definitions a
+        its_kind a is =
+            subst (λ (o : Option Own). IsOfOneKind definitions a o a.item) (sym is.same) (subst (λ (i : Option Item). IsOfOneKind definitions a (Some outcome.own) i) (sym is.no_item) (record {
+              machine = subst (λ (m : ℕ). m < length definitions.machines) (sym through.machine) below_count;
+              part = inr (subst (λ (m : ℕ). HasBegun (nodes_of definitions m) outcome.own) (sym through.machine) through.begun);
+              kids = is.listed ∙ sym through.children;
+              init = λ active. subst (λ (b : Bool). MatchBool b (HasNoInit a.mailbox) (HasInitAsHead a.mailbox)) (sym through.begun.begun)
+                  (All-from_recursion (λ (letter : Letter). is_init letter ≡ false) a.mailbox is.no_init);
+            }))
 
-    by_number : (a : ActorRecord) → MidKind definitions linked callers n outcome.own (fold children_after own.children outcome.effects) a → (b : Bool) → nat_eq a.number n ≡ b → Kind definitions a
-    by_number a kind true is = its_kind a (kind.one (eqb-true a.number n is))
-    by_number a kind false is = kind.other (eqb-false a.number n is)
+        by_number : (a : ActorRecord) → MidKind definitions linked callers n outcome.own (fold children_after own.children outcome.effects) a → (b : Bool) → nat_eq a.number n ≡ b → Kind definitions a
+        by_number a kind true is = its_kind a (kind.one (eqb-true a.number n is))
+        by_number a kind false is = kind.other (eqb-false a.number n is)
 
   through_fits : IsThrough definitions own outcome → own.def < length definitions.machines → Pairs (λ (a b : List ℕ). a ≢ b) own.children → (conclusion : OfficeState → Fitted)
       → ((state : OfficeState) → Sound (Kind definitions) callers state → runs state.actors n ≡ true → FitsSound definitions callers (conclusion state))
       → FitsSound definitions callers (after_effects definitions n outcome.effects (with_own n outcome.own taken) >>= conclusion)
   through_fits through below_count differ conclusion concludes =
       by_effects (after_effects definitions n outcome.effects (with_own n outcome.own taken)) (effects_fit definitions linked callers n outcome.own outcome.effects own.children (with_own n outcome.own taken) (begun_mid through differ) through.effects) where
-    by_effects : (x : Fitted) → MidFits definitions linked callers n outcome.own (fold children_after own.children outcome.effects) x → FitsSound definitions callers (x >>= conclusion)
-    by_effects (Ok state) mid = concludes state (whole through below_count state mid) mid.runner
-    by_effects (Err name) mid = tt
+        by_effects : (x : Fitted) → MidFits definitions linked callers n outcome.own (fold children_after own.children outcome.effects) x → FitsSound definitions callers (x >>= conclusion)
+        by_effects (Ok state) mid = concludes state (whole through below_count state mid) mid.runner
+        by_effects (Err name) mid = tt
 
   undone_fits : (error : Value) → IsUndone own outcome → is_short error ≡ true → FitsSound definitions callers (after_effects definitions n outcome.effects (with_own n outcome.own taken) >>= (λ state. Ok (after_failure n error state)))
   unfolding after_effects
   undone_fits error undone short =
       let same_part : Some outcome.own ≡ Some own = ap (λ (o : Own). Some o) undone.own_part in
       let part = own_sound (TakenKind definitions callers n own) (TakenKind definitions callers n own) callers taken n outcome.own sound (λ a differs kind. kind)
-          (λ a seen kind. record {
-            other = λ differs. absurd (differs (look_number number_of taken.actors n a seen));
-            one = λ is. (
-              let before = kind.one is in
-              record { same = same_part; no_item = before.no_item; machine = before.machine; part = before.part; listed = before.listed; no_init = before.no_init });
-          }) in
+      (λ a seen kind. record {
+        other = λ differs. absurd (differs (look_number number_of taken.actors n a seen));
+        one = λ is. (
+            let before = kind.one is in
+            record { same = same_part; no_item = before.no_item; machine = before.machine; part = before.part; listed = before.listed; no_init = before.no_init });
+      }) in
       subst (λ (effects : List Effect). FitsSound definitions callers (after_effects definitions n effects (with_own n outcome.own taken) >>= (λ state. Ok (after_failure n error state)))) (sym undone.effects)
       (failure_sound definitions callers n own error (with_own n outcome.own taken) short part part_runs)
 
@@ -261,19 +259,19 @@ steps_keep_validity definitions state n own outcome linked valid ready owns allo
     let taken : OfficeState = without_head state n in
     let take : ActorRecord → ActorRecord = λ (a : ActorRecord). record a { mailbox = drop 1 a.mailbox } in
     let sound_taken : Sound (TakenKind definitions state.callers n own) state.callers taken =
-        head_sound (Kind definitions) (TakenKind definitions state.callers n own) state.callers state n sound
-        (λ a differs kind. record { other = λ other. kind; one = λ same. absurd (differs same) })
-        (λ a seen kind. (
-          let same_record : Some actor.0 ≡ Some a = sym actor.1 ∙ seen in
-          let same : actor.0 ≡ a = cc in
-          record {
-            other = λ differs. absurd (differs (look_number number_of state.actors n a seen));
-            one = λ is. taken_from definitions own a (ap (λ (z : ActorRecord). z.own) (sym same) ∙ its_own) (ap is_active (sym same) ∙ actor.2) kind;
-          })) in
+    head_sound (Kind definitions) (TakenKind definitions state.callers n own) state.callers state n sound
+    (λ a differs kind. record { other = λ other. kind; one = λ same. absurd (differs same) })
+    (λ a seen kind. (
+    let same_record : Some actor.0 ≡ Some a = sym actor.1 ∙ seen in
+    let same : actor.0 ≡ a = cc in
+    record {
+      other = λ differs. absurd (differs (look_number number_of state.actors n a seen));
+      one = λ is. taken_from definitions own a (ap (λ (z : ActorRecord). z.own) (sym same) ∙ its_own) (ap is_active (sym same) ∙ actor.2) kind;
+    })) in
     let runner : runs taken.actors n ≡ true =
-        runs_map (at number_of n take) state.actors (at_number number_of n take (λ a. refl)) n
-        (λ a seen active is. (at_same number_of is_active n take (λ z. refl) a ∙ active, at_same number_of (λ (z : ActorRecord). is_some z.own) n take (λ z. refl) a ∙ is))
-        (runs_from state.actors n actor.0 actor.1 actor.2 actor.3) in
+    runs_map (at number_of n take) state.actors (at_number number_of n take (λ a. refl)) n
+    (λ a seen active is. (at_same number_of is_active n take (λ z. refl) a ∙ active, at_same number_of (λ (z : ActorRecord). is_some z.own) n take (λ z. refl) a ∙ is))
+    (runs_from state.actors n actor.0 actor.1 actor.2 actor.3) in
     let kind : IsMachineOf definitions actor.0 own = machine_of definitions actor.0 own its_own (each_look number_of (Kind definitions) state.actors sound.kinds n actor.0 actor.1) in
     let after : OfficeState = or_failure n taken (after_outcome definitions n outcome taken) in
     let sound_after : Sound (Kind definitions) state.callers after = step_sound definitions linked state.callers n own outcome taken sound_taken runner allowed kind.0 (children_differ definitions own kind.1) in

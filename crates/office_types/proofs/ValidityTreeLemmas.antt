@@ -56,9 +56,9 @@ pub within_same : (P : ℕ → Type 0) (actors others : List ActorRecord) → ((
 within_same P actors others above same zero n is = refl
 within_same P actors others above same (suc levels) n is =
     ap (λ (o : Option ℕ). option_map_or (within others levels) o true) (same n is) ∙ by_parent (within_same P actors others above same levels) (parent_in actors n) refl where
-  by_parent : ((p : ℕ) → P p → within others levels p ≡ within actors levels p) → (o : Option ℕ) → parent_in actors n ≡ o → option_map_or (within others levels) o true ≡ option_map_or (within actors levels) o true
-  by_parent rest None e = refl
-  by_parent rest (Some p) e = rest p (above n p is e)
+      by_parent : ((p : ℕ) → P p → within others levels p ≡ within actors levels p) → (o : Option ℕ) → parent_in actors n ≡ o → option_map_or (within others levels) o true ≡ option_map_or (within actors levels) o true
+      by_parent rest None e = refl
+      by_parent rest (Some p) e = rest p (above n p is e)
 
 -- ---- those below an actor
 
@@ -136,13 +136,13 @@ below_cases (actor ∷ actors) found n rising is =
       | inl first ↦ elim (among_added found actor n first) [
         | inl before ↦ inl before
         | inr here ↦ (
-          let up = has_parent found actor here.1 in
-          inr (actor, up.0, ap (λ (b : Bool). cond b (Some actor) (record_in actors n)) (eq-eqb actor.number n here.0), up.1, below_found actors (add_below found actor) up.0 (among_add found actor up.0 up.2)))
+            let up = has_parent found actor here.1 in
+            inr (actor, up.0, ap (λ (b : Bool). cond b (Some actor) (record_in actors n)) (eq-eqb actor.number n here.0), up.1, below_found actors (add_below found actor) up.0 (among_add found actor up.0 up.2)))
       ]
       | inr (c, p, seen, parent, is) ↦ (
-        let same : c.number ≡ n = look_number number_of actors n c seen in
-        let less : actor.number < c.number = each_look number_of (λ (z : ActorRecord). actor.number < z.number) actors rising.0 n c seen in
-        inr (c, p, ap (λ (b : Bool). cond b (Some actor) (record_in actors n)) (ne_eqb actor.number n (omega arith)) ∙ seen, parent, is))
+          let same : c.number ≡ n = look_number number_of actors n c seen in
+          let less : actor.number < c.number = each_look number_of (λ (z : ActorRecord). actor.number < z.number) actors rising.0 n c seen in
+          inr (c, p, ap (λ (b : Bool). cond b (Some actor) (record_in actors n)) (ne_eqb actor.number n (omega arith)) ∙ seen, parent, is))
     ]
 
 -- whoever has its parent below stands below
@@ -151,33 +151,33 @@ pub below_closed : (actors : List ActorRecord) (found : List ℕ) (n p : ℕ) (a
 below_closed [] found n p a rising smaller seen parent is = absurd (cc)
 below_closed (actor ∷ actors) found n p a rising smaller seen parent is =
     by_number (below_closed actors (add_below found actor) n p a rising.1 smaller.1) (nat_eq actor.number n) refl seen where
-  first : actor ≡ a → actor.number ≡ n → is_among (add_below found actor) p ≡ true → is_among (below actors (add_below found actor)) n ≡ true
-  first same number is =
-      let its_parent : actor.parent ≡ Some p = ap (λ (z : ActorRecord). z.parent) same ∙ parent in
-      elim (among_added found actor p is) [
-        | inl before ↦ below_found actors (add_below found actor) n
-            (ap (λ (b : Bool). is_among (if b then found ++ actor.number ∷ [] else found) n) (parent_has found actor p its_parent before) ∙ among_push found actor.number n
-            ∙ subst (λ (m : ℕ). (is_among found m || is_among (actor.number ∷ []) m) ≡ true) number (either (is_among found actor.number) (among_itself actor.number)))
-        | inr here ↦ absurd (let less : p < actor.number = smaller.0 p its_parent in omega (arith, here.0))
-      ] where
-    either : (b : Bool) → is_among (actor.number ∷ []) actor.number ≡ true → (b || is_among (actor.number ∷ []) actor.number) ≡ true
-    either true e = refl
-    either false e = e
+      first : actor ≡ a → actor.number ≡ n → is_among (add_below found actor) p ≡ true → is_among (below actors (add_below found actor)) n ≡ true
+      first same number is =
+          let its_parent : actor.parent ≡ Some p = ap (λ (z : ActorRecord). z.parent) same ∙ parent in
+          elim (among_added found actor p is) [
+            | inl before ↦ below_found actors (add_below found actor) n
+                (ap (λ (b : Bool). is_among (if b then found ++ actor.number ∷ [] else found) n) (parent_has found actor p its_parent before) ∙ among_push found actor.number n
+                ∙ subst (λ (m : ℕ). (is_among found m || is_among (actor.number ∷ []) m) ≡ true) number (either (is_among found actor.number) (among_itself actor.number)))
+            | inr here ↦ absurd (let less : p < actor.number = smaller.0 p its_parent in omega (arith, here.0))
+          ] where
+            either : (b : Bool) → is_among (actor.number ∷ []) actor.number ≡ true → (b || is_among (actor.number ∷ []) actor.number) ≡ true
+            either true e = refl
+            either false e = e
 
-  by_number : (record_in actors n ≡ Some a → a.parent ≡ Some p → is_among (below actors (add_below found actor)) p ≡ true → is_among (below actors (add_below found actor)) n ≡ true)
-      → (b : Bool) → nat_eq actor.number n ≡ b → cond b (Some actor) (record_in actors n) ≡ Some a → is_among (below actors (add_below found actor)) n ≡ true
-  by_number rest false number seen = rest seen parent is
-  by_number rest true number seen =
-      let same : actor ≡ a = cc in
-      let here : actor.number ≡ n = eqb-true actor.number n number in
-      let less : p < actor.number = smaller.0 p (ap (λ (z : ActorRecord). z.parent) same ∙ parent) in
-      elim (below_cases actors (add_below found actor) p rising.1 is) [
-        | inl before ↦ first same here before
-        | inr (c, q, there, _, _) ↦ absurd (
-          let later : actor.number < c.number = each_look number_of (λ (z : ActorRecord). actor.number < z.number) actors rising.0 p c there in
-          let at_p : c.number ≡ p = look_number number_of actors p c there in
-          omega arith)
-      ]
+      by_number : (record_in actors n ≡ Some a → a.parent ≡ Some p → is_among (below actors (add_below found actor)) p ≡ true → is_among (below actors (add_below found actor)) n ≡ true)
+          → (b : Bool) → nat_eq actor.number n ≡ b → cond b (Some actor) (record_in actors n) ≡ Some a → is_among (below actors (add_below found actor)) n ≡ true
+      by_number rest false number seen = rest seen parent is
+      by_number rest true number seen =
+          let same : actor ≡ a = cc in
+          let here : actor.number ≡ n = eqb-true actor.number n number in
+          let less : p < actor.number = smaller.0 p (ap (λ (z : ActorRecord). z.parent) same ∙ parent) in
+          elim (below_cases actors (add_below found actor) p rising.1 is) [
+            | inl before ↦ first same here before
+            | inr (c, q, there, _, _) ↦ absurd (
+                let later : actor.number < c.number = each_look number_of (λ (z : ActorRecord). actor.number < z.number) actors rising.0 p c there in
+                let at_p : c.number ≡ p = look_number number_of actors p c there in
+                omega arith)
+          ]
 
 -- all that stand below have numbers from the least one on
 pub below_from : (actors : List ActorRecord) (found : List ℕ) (least : ℕ) → AllByRecursion ParentIsSmaller actors → ((n : ℕ) → is_among found n ≡ true → least ≤ n) → (n : ℕ) → is_among (below actors found) n ≡ true → least ≤ n
@@ -186,11 +186,11 @@ below_from (actor ∷ actors) found least smaller from n is =
     below_from actors (add_below found actor) least smaller.1 (λ m is. elim (among_added found actor m is) [
       | inl before ↦ from m before
       | inr here ↦ (
-        let up = has_parent found actor here.1 in
-        let less : up.0 < actor.number = smaller.0 up.0 up.1 in
-        let low : least ≤ up.0 = from up.0 up.2 in
-        let same : actor.number ≡ m = here.0 in
-        omega arith)
+          let up = has_parent found actor here.1 in
+          let less : up.0 < actor.number = smaller.0 up.0 up.1 in
+          let low : least ≤ up.0 = from up.0 up.2 in
+          let same : actor.number ≡ m = here.0 in
+          omega arith)
     ]) n is
 
 -- ---- trees of actors
@@ -246,16 +246,16 @@ module _ (next : ℕ) (actors : List ActorRecord) (tree : Tree next actors) wher
       rise = pairs_map (λ (x y : ActorRecord). x.number < y.number) (λ (x y : ActorRecord). x.number < y.number) f actors (λ x y less. omega (arith, same_number x, same_number y)) tree.rise;
       given = each_map (λ (z : ActorRecord). IsGiven next z.number) f actors (each_mono (λ (z : ActorRecord). IsGiven next z.number) (λ (z : ActorRecord). IsGiven next (f z).number) actors (λ z given. (omega (arith, given.0, same_number z), omega (arith, given.1, same_number z))) tree.given);
       parents = λ n b p seen parent. (
-        let before = seen_map n b seen in
-        subst (λ (z : ActorRecord). Child (map f actors) z p) before.2 (above n before.0 p before.1 (sym (same_parent before.0) ∙ ap (λ (z : ActorRecord). z.parent) before.2 ∙ parent)));
+          let before = seen_map n b seen in
+          subst (λ (z : ActorRecord). Child (map f actors) z p) before.2 (above n before.0 p before.1 (sym (same_parent before.0) ∙ ap (λ (z : ActorRecord). z.parent) before.2 ∙ parent)));
       kids = λ n b seen. (
-        let before = seen_map n b seen in
-        let fits : AllByRecursion (λ (kid : List ℕ × ℕ). parent_in (map f actors) kid.1 ≡ Some n) before.0.kids =
-            each_mono (λ (kid : List ℕ × ℕ). parent_in actors kid.1 ≡ Some n) (λ (kid : List ℕ × ℕ). parent_in (map f actors) kid.1 ≡ Some n) before.0.kids (λ kid is. parent_map kid.1 ∙ is) (tree.kids n before.0 before.1) in
-        subst (AllByRecursion (λ (kid : List ℕ × ℕ). parent_in (map f actors) kid.1 ≡ Some n)) (sym (same_kids before.0) ∙ ap (λ (z : ActorRecord). z.kids) before.2) fits);
+          let before = seen_map n b seen in
+          let fits : AllByRecursion (λ (kid : List ℕ × ℕ). parent_in (map f actors) kid.1 ≡ Some n) before.0.kids =
+          each_mono (λ (kid : List ℕ × ℕ). parent_in actors kid.1 ≡ Some n) (λ (kid : List ℕ × ℕ). parent_in (map f actors) kid.1 ≡ Some n) before.0.kids (λ kid is. parent_map kid.1 ∙ is) (tree.kids n before.0 before.1) in
+          subst (AllByRecursion (λ (kid : List ℕ × ℕ). parent_in (map f actors) kid.1 ≡ Some n)) (sym (same_kids before.0) ∙ ap (λ (z : ActorRecord). z.kids) before.2) fits);
       levels = λ n b seen. (
-        let before = seen_map n b seen in
-        within_same (λ m. ⊤) actors (map f actors) (λ m p is e. tt) (λ m is. parent_map m) 16 n tt ∙ tree.levels n before.0 before.1);
+          let before = seen_map n b seen in
+          within_same (λ m. ⊤) actors (map f actors) (λ m p is e. tt) (λ m is. parent_map m) 16 n tt ∙ tree.levels n before.0 before.1);
     } where
       above : (n : ℕ) (a : ActorRecord) (p : ℕ) → record_in actors n ≡ Some a → a.parent ≡ Some p → Child (map f actors) (f a) p
       above n a p seen parent =
@@ -312,9 +312,9 @@ module _ (next : ℕ) (actors : List ActorRecord) (tree : Tree next actors) (num
     rise = rising;
     given = look_each number_of (λ (z : ActorRecord). IsGiven (next + 1) z.number) others rising (λ m b seen. elim (grown_cases m b seen) [
       | inl (a, before, same) ↦ (
-        let given : IsGiven next m = given_in next actors tree m a before in
-        let at_m : b.number ≡ m = look_number number_of others m b seen in
-        (omega (arith, given.0), omega (arith, given.1)))
+          let given : IsGiven next m = given_in next actors tree m a before in
+          let at_m : b.number ≡ m = look_number number_of others m b seen in
+          (omega (arith, given.0), omega (arith, given.1)))
       | inr (at_next, same) ↦ (let at_m : b.number ≡ m = look_number number_of others m b seen in (omega arith, omega arith))
     ]);
     parents = λ m b p seen parent. elim (grown_cases m b seen) [
@@ -348,9 +348,9 @@ module _ (next : ℕ) (actors : List ActorRecord) (tree : Tree next actors) (num
         more (λ (kid : List ℕ × ℕ). parent_in others kid.1 ≡ Some m) m a seen
         (each_mono (λ (kid : List ℕ × ℕ). parent_in actors kid.1 ≡ Some m) (λ (kid : List ℕ × ℕ). parent_in others kid.1 ≡ Some m) a.kids
         (λ kid is. (
-          let up = chained (λ (z : ActorRecord). z.parent) (record_in actors kid.1) m is in
-          let given : IsGiven next kid.1 = given_in next actors tree kid.1 up.0 up.1 in
-          grown_parent kid.1 given.1 ∙ is)) (tree.kids m a seen))
+        let up = chained (λ (z : ActorRecord). z.parent) (record_in actors kid.1) m is in
+        let given : IsGiven next kid.1 = given_in next actors tree kid.1 up.0 up.1 in
+        grown_parent kid.1 given.1 ∙ is)) (tree.kids m a seen))
         (λ parent id. ap (option_and_then (λ (z : ActorRecord). z.parent)) grown_new ∙ parent)
 
 mapped_itself : {X : Type 0} (o : Option X) → o ≡ option_map (λ (x : X). x) o
@@ -361,9 +361,9 @@ mapped_itself (Some x) = refl
 pub tree_start : (next : ℕ) (actors : List ActorRecord) → Tree next actors → 0 < next → (fresh : ActorRecord) → fresh.number ≡ next → fresh.kids ≡ [] → fresh.parent ≡ None → Tree (next + 1) (actors ++ fresh ∷ [])
 tree_start next actors tree numbered fresh fresh_number fresh_kids no_parent =
     let looks : (m : ℕ) → record_in (actors ++ fresh ∷ []) m ≡ option_map (λ (a : ActorRecord). a) (option_or (record_in actors m) (record_in (fresh ∷ []) m)) =
-        λ m. look_push number_of actors fresh m ∙ mapped_itself (option_or (record_in actors m) (record_in (fresh ∷ []) m)) in
+    λ m. look_push number_of actors fresh m ∙ mapped_itself (option_or (record_in actors m) (record_in (fresh ∷ []) m)) in
     let new : record_in (actors ++ fresh ∷ []) next ≡ Some fresh =
-        grown_new next actors tree numbered (λ a. a) fresh (actors ++ fresh ∷ []) (λ a. refl) (λ a. refl) (λ a. refl) fresh_number fresh_kids refl looks (λ m a c seen small. refl) (λ P m a seen all here. all) in
+    grown_new next actors tree numbered (λ a. a) fresh (actors ++ fresh ∷ []) (λ a. refl) (λ a. refl) (λ a. refl) fresh_number fresh_kids refl looks (λ m a c seen small. refl) (λ P m a seen all here. all) in
     tree_grow next actors tree numbered (λ a. a) fresh (actors ++ fresh ∷ []) (λ a. refl) (λ a. refl) (λ a. refl) fresh_number fresh_kids refl looks (λ m a c seen small. refl) (λ P m a seen all here. all)
     (pairs_push (λ (x y : ActorRecord). x.number < y.number) actors fresh tree.rise (each_mono (λ (z : ActorRecord). IsGiven next z.number) (λ (z : ActorRecord). z.number < fresh.number) actors (λ z given. omega (arith, given.1)) tree.given))
     (λ p parent. absurd (cc))
@@ -421,10 +421,10 @@ module _ (next : ℕ) (actors : List ActorRecord) (tree : Tree next actors) (num
       let at_parent : parent.number ≡ n = look_number number_of actors n parent seen in
       let kids : (adopt parent).kids ≡ parent.kids ++ (id, next) ∷ [] = ap (λ (b : Bool). (if b then with_kid id next parent else parent).kids) (eq-eqb parent.number n at_parent) in
       let before : count_by (is_kid next) parent.kids ≡ 0 = count_none (is_kid next) parent.kids (each_mono (λ (kid : List ℕ × ℕ). parent_in actors kid.1 ≡ Some n) (λ (kid : List ℕ × ℕ). is_kid next kid ≡ false) parent.kids
-          (λ kid is. (
-            let up = chained (λ (z : ActorRecord). z.parent) (record_in actors kid.1) n is in
-            let given : IsGiven next kid.1 = given_in next actors tree kid.1 up.0 up.1 in
-            ne_eqb kid.1 next (λ e. omega (arith, given.1)))) (tree.kids n parent seen)) in
+      (λ kid is. (
+      let up = chained (λ (z : ActorRecord). z.parent) (record_in actors kid.1) n is in
+      let given : IsGiven next kid.1 = given_in next actors tree kid.1 up.0 up.1 in
+      ne_eqb kid.1 next (λ e. omega (arith, given.1)))) (tree.kids n parent seen)) in
       let one : count_by (is_kid next) ((id, next) ∷ []) ≡ 1 = ap (λ (b : Bool). 0 + cond b 1 0) (eq-eqb next next refl) in
       record {
         above = adopt parent;
