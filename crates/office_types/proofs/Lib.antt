@@ -23,3 +23,4 @@ mod ValidityCallerLemmas
 mod ValidityDecisionLemmas
 mod ValidityStepLemmas
 mod ValidityTookLemmas
+mod ValidityEntryLemmas

@@ -115,7 +115,7 @@ scheduled_sound K callers state timer sound room order fits =
 
 -- ---- lists
 
-get_each : {X : Type 0} (P : X → Type 0) (xs : List X) (i : ℕ) (x : X) → AllByRecursion P xs → slice_get xs i ≡ Some x → P x
+pub get_each : {X : Type 0} (P : X → Type 0) (xs : List X) (i : ℕ) (x : X) → AllByRecursion P xs → slice_get xs i ≡ Some x → P x
 get_each P [] i x all is = absurd (cc)
 get_each P (y ∷ xs) zero x all is = let same : y ≡ x = cc in subst P same all.0
 get_each P (y ∷ xs) (suc i) x all is = get_each P xs i x all.1 is

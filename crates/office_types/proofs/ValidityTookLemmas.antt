@@ -241,10 +241,10 @@ ready_record state n is = by_record (record_of state n) refl is where
       let parts = and_parts (is_active a) (is_some a.own && nat_lt 0 (length a.mailbox)) is in
       (a, seen, parts.0, (and_parts (is_some a.own) (nat_lt 0 (length a.mailbox)) parts.1).0)
 
-abbrev IsMachineOf : OfficeDefinitions → ActorRecord → Own → Type 0
+abbrev pub IsMachineOf : OfficeDefinitions → ActorRecord → Own → Type 0
 IsMachineOf definitions actor own = (own.def < length definitions.machines) × IsOwnPart (nodes_of definitions own.def) own
 
-machine_of : (definitions : OfficeDefinitions) (a : ActorRecord) (own : Own) → a.own ≡ Some own → Kind definitions a → IsMachineOf definitions a own
+pub machine_of : (definitions : OfficeDefinitions) (a : ActorRecord) (own : Own) → a.own ≡ Some own → Kind definitions a → IsMachineOf definitions a own
 machine_of definitions a own same kind = by_item a.item (subst (λ (o : Option Own). IsOfOneKind definitions a o a.item) same kind) where
   by_item : (item : Option Item) → IsOfOneKind definitions a (Some own) item → IsMachineOf definitions a own
   by_item None kind = (kind.machine, kind.part)

@@ -11,9 +11,11 @@ use Rattle.office_types.specs.declared.office.OfficeState.{OfficeState}
 use Rattle.office_types.specs.declared.outcome.Outcome.{Outcome}
 use Rattle.office_types.specs.declared.outcome.Own.{Own}
 use Rattle.office_types.specs.Decisions.{decided, undecided}
-use Rattle.office_types.specs.Definitions.{OfficeDefinitions}
+use Rattle.office_types.specs.Definitions.{OfficeDefinitions, nodes_of}
+use Rattle.office_types.specs.Limits.{is_event}
 use Rattle.office_types.specs.Observation.{own_of}
 use Rattle.office_types.specs.Outcomes.{IsAllowedOutcome}
+use Rattle.office_types.specs.OwnParts.{IsOwnPart}
 use Rattle.office_types.specs.Records.{is_ready, record_of}
 use Rattle.office_types.specs.RequestLines.{IsRequest}
 use Rattle.office_types.specs.Step.{took}
@@ -22,9 +24,11 @@ use Rattle.office_types.specs.Step.{took}
 abbrev pub Macrostep : Type 0
 Macrostep = Own → Value → Outcome
 
--- each outcome is one that the rules allow
+-- each outcome is one that the rules allow, where the own part is one of a machine of the definitions, and the event is one
 abbrev pub IsAllowedMacrostep : OfficeDefinitions → Macrostep → Type 0
-IsAllowedMacrostep definitions macrostep = (own : Own) (event : Value) → IsAllowedOutcome definitions own (macrostep own event)
+IsAllowedMacrostep definitions macrostep =
+    (own : Own) (event : Value) → own.def < length definitions.machines → IsOwnPart (nodes_of definitions own.def) own → IsTrue (is_event event)
+    → IsAllowedOutcome definitions own (macrostep own event)
 
 -- the letter that an actor takes next
 abbrev pub head_of : OfficeState → ℕ → Option Letter

@@ -18,11 +18,11 @@ use Rattle.office_types.specs.declared.outcome.Own.{Own}
 use Rattle.office_types.specs.declared.request.Request.{Request}
 use Rattle.office_types.specs.Decisions.{decided, next_number}
 use Rattle.office_types.specs.Definitions.{AreLinked, OfficeDefinitions}
-use Rattle.office_types.specs.Entries.{AreLegal, Macrostep, after}
+use Rattle.office_types.specs.Entries.{AreLegal, IsAllowedMacrostep, Macrostep, after}
 use Rattle.office_types.specs.JsonValues.{MeansValue}
 use Rattle.office_types.specs.Observation.{own_of}
 use Rattle.office_types.specs.Outcomes.{IsAllowedOutcome}
-use Rattle.office_types.specs.Records.{is_ready}
+use Rattle.office_types.specs.Records.{empty_office, is_ready}
 use Rattle.office_types.specs.RequestLines.{IsEntryText, IsRequest, IsRequestLine, canonical_line, entry_text}
 use Rattle.office_types.specs.Requests.{IsNumber}
 use Rattle.office_types.specs.Step.{took}
@@ -108,3 +108,13 @@ StepsKeepValidity =
     (definitions : OfficeDefinitions) (state : OfficeState) (number : ℕ) (own : Own) (outcome : Outcome) → AreLinked definitions → IsValidOffice definitions state
     → IsTrue (is_ready state number) → own_of state number ≡ Some own → IsAllowedOutcome definitions own outcome → state.entries < MAX_ENTRIES
     → IsValidOffice definitions (took definitions number outcome state)
+
+-- the empty office is valid
+abbrev pub EmptyOfficeIsValid : Type 0
+EmptyOfficeIsValid = (definitions : OfficeDefinitions) → IsValidOffice definitions empty_office
+
+-- legal entries keep an office valid, where the rules allow each outcome of the macrostep
+abbrev pub EntriesKeepValidity : Type 0
+EntriesKeepValidity =
+    (definitions : OfficeDefinitions) (macrostep : Macrostep) (state : OfficeState) (entries : List Entry) → AreLinked definitions → IsAllowedMacrostep definitions macrostep
+    → IsValidOffice definitions state → AreLegal definitions macrostep state entries → IsValidOffice definitions (after definitions macrostep state entries)

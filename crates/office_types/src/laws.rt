@@ -1,6 +1,6 @@
 //! What follows from the definitions of an office.
 
-ghost use Rattle.office_types.specs.Laws.{CanonicalLinesAreLines, CompactTextMeansItsValue, DecisionsKeepValidity, EntriesReadBack, LettersWaitedBefore, MeantValuesArePlain, RepeatsGetTheReply, RequestsStandOnce, StepsKeepValidity};
+ghost use Rattle.office_types.specs.Laws.{CanonicalLinesAreLines, CompactTextMeansItsValue, DecisionsKeepValidity, EmptyOfficeIsValid, EntriesKeepValidity, EntriesReadBack, LettersWaitedBefore, MeantValuesArePlain, RepeatsGetTheReply, RequestsStandOnce, StepsKeepValidity};
 ghost use Rattle.office_types.specs.RequestLines.{RequestIsUnique};
 ghost use Rattle.office_types.specs.WorkedRows.{WorkedExamples};
 
@@ -61,4 +61,14 @@ pub fn decisions_keep_validity()
 /// A step of a ready actor with an allowed outcome keeps an office valid.
 pub fn steps_keep_validity()
     ensures { StepsKeepValidity }
+{}
+
+/// The empty office is valid.
+pub fn empty_office_is_valid()
+    ensures { EmptyOfficeIsValid }
+{}
+
+/// Legal entries keep an office valid.
+pub fn entries_keep_validity()
+    ensures { EntriesKeepValidity }
 {}
