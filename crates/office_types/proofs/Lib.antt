@@ -8,4 +8,9 @@ mod PlainLemmas
 mod CanonicalLineLemmas
 mod CallerLemmas
 mod ChangeLemmas
+mod RecordLemmas
 mod LetterLemmas
+mod NumberLemmas
+mod LetterOrderLemmas
+mod TakenLetterLemmas
+mod LostLetterLemmas
