@@ -1,6 +1,7 @@
 pub mod DropLemmas
 pub mod FrontLemmas
 pub mod GateLemmas
+pub mod InUseLemmas
 pub mod HoldLemmas
 pub mod NumberLemmas
 pub mod OkLemmas

@@ -1,5 +1,6 @@
 pub mod Found
 pub mod Gate
+pub mod InUse
 pub mod Journal
 pub mod Layout
 pub mod Opened

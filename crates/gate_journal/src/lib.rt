@@ -69,6 +69,8 @@ mod parts;
 mod reading;
 mod records;
 mod scan;
+#[cfg(test)]
+mod tests;
 mod window;
 
 pub use held::{Held, Layout, Places};
