@@ -3,6 +3,7 @@ pub mod FrontLemmas
 pub mod GateLemmas
 pub mod InUseLemmas
 pub mod HoldLemmas
+pub mod LayoutLemmas
 pub mod NumberLemmas
 pub mod OkLemmas
 pub mod OpenedLemmas

@@ -64,6 +64,7 @@
 mod gate;
 mod held;
 mod journal;
+pub mod laws;
 mod opening;
 mod parts;
 mod reading;
