@@ -1,7 +1,9 @@
 pub mod DropLemmas
 pub mod FrontLemmas
 pub mod GateLemmas
+pub mod InUseLemmas
 pub mod HoldLemmas
+pub mod LayoutLemmas
 pub mod NumberLemmas
 pub mod OkLemmas
 pub mod OpenedLemmas

@@ -1,6 +1,8 @@
 pub mod Found
 pub mod Gate
+pub mod InUse
 pub mod Journal
+pub mod Laws
 pub mod Layout
 pub mod Opened
 pub mod Opening

@@ -1,4 +1,5 @@
-//! The journal in use: records are appended, the last one is dropped, and the office moves to the other side.
+//! The journal in use: records are appended, the last one is dropped, and the office moves to the
+//! other side.
 
 ghost use Rattle.std.specs.Prelude.{◌≡◌, ◌↔◌, ◌⊎◌, ◌+◌, ◌-◌, ◌++◌, [], ◌∷◌, ◌<◌, ◌≤◌, ◌^◌, length, slice_index, IsTrue, Some, Option, OnOk, IfOk, IfSome, is_err, is_some};
 ghost use Rattle.gate_journal.specs.Opened.{PointsTo};
@@ -80,8 +81,9 @@ impl<D: Disk> Journal<D> {
     ghost use Rattle.gate_journal.specs.declared.held.Held.{Held};
     ghost use Rattle.gate_journal.specs.Journal.{disk_of, IsShut, CanAppend, CanDrop, CanSwitch, Stands, HoldsEither, added, without_last, switched, append_failed, switch_failed, end_of, last_of, generation_of, next_side, ready_on, AppendLeaves, DropLeaves, SwitchLeaves};
 
-    /// Opens the journal that a disk holds: it syncs both sides, and reads what they hold, each byte at most
-    /// once. What is held is handed out and not kept; it is None where both sides are closed.
+    /// Opens the journal that a disk holds: it syncs both sides, and reads what they hold, each
+    /// byte at most once. What is held is handed out and not kept; it is None where both sides are
+    /// closed.
     pub fn open(alloc: Global, mut disk: D) -> Result<(Journal<D>, Option<Held>), JournalRefused<D>>
         ensures opened { IfOk result (λ r. IsTrue (D.state disk).honest
             → Stands r.1 (D.state (disk_of r.0)) r.0) }
@@ -89,7 +91,8 @@ impl<D: Disk> Journal<D> {
         ensures bad { IfBadSides result (λ side place. IsTrue (D.state disk).honest
             → AreBadAt side place (D.state disk).content) }
         ensures sides { KeepsSides (D.state disk) (D.state (disk_after result)) }
-        ensures call { IsJournalCall (open_failed result) (D.state disk) (D.state (disk_after result)) }
+        ensures call { IsJournalCall (open_failed result)
+            (D.state disk) (D.state (disk_after result)) }
         ensures fetched { IsTrue (D.state disk).honest → (D.state (disk_after result)).fetched
             ≤ (D.state disk).fetched + both_lengths (D.state disk).content }
     {
@@ -161,8 +164,9 @@ impl<D: Disk> Journal<D> {
         }
     }
 
-    /// Adds a record behind the others. It makes four calls of the disk, which write each byte once, and
-    /// copies the payload once; memory is taken only where the longest payload so far grows.
+    /// Adds a record behind the others. It makes four calls of the disk, which write each byte
+    /// once, and copies the payload once; memory is taken only where the longest payload so far
+    /// grows.
     pub fn append(&mut self, payload: &[u8]) -> Result<(), AppendRefused>
         requires size { IsRecordSize (length payload.now) }
         requires can { CanAppend self.old }
@@ -176,8 +180,10 @@ impl<D: Disk> Journal<D> {
             → AllSince (D.state (disk_of self.old)).clock (HoldsEither (other held.side)
             (D.state (disk_of self.old)).content (Some held) (Some (added held payload.now)))
             (D.state (disk_of self.new)) }
-        ensures call { IsJournalCall (append_failed result) (D.state (disk_of self.old)) (D.state (disk_of self.new)) }
-        ensures fetched { (D.state (disk_of self.new)).fetched ≡ (D.state (disk_of self.old)).fetched }
+        ensures call { IsJournalCall (append_failed result)
+            (D.state (disk_of self.old)) (D.state (disk_of self.new)) }
+        ensures fetched { (D.state (disk_of self.new)).fetched
+            ≡ (D.state (disk_of self.old)).fetched }
         ensures leaves { AppendLeaves result (length payload.now) self.old self.new }
     {
         let Some(current) = self.current else {
@@ -200,8 +206,8 @@ impl<D: Disk> Journal<D> {
         Ok(())
     }
 
-    /// Takes the last record out: its gate is closed, so that the records end there. Two calls of the disk,
-    /// and no memory.
+    /// Takes the last record out: its gate is closed, so that the records end there. Two calls of
+    /// the disk, and no memory.
     pub fn drop_last(&mut self) -> Result<(), Failed>
         requires can { CanDrop self.old }
         requires stands { IsTrue (D.state (disk_of self.old)).honest
@@ -214,8 +220,10 @@ impl<D: Disk> Journal<D> {
             → AllSince (D.state (disk_of self.old)).clock (HoldsEither (other held.side)
             (D.state (disk_of self.old)).content (Some held) (Some (without_last held)))
             (D.state (disk_of self.new)) }
-        ensures call { IsJournalCall (is_err result) (D.state (disk_of self.old)) (D.state (disk_of self.new)) }
-        ensures fetched { (D.state (disk_of self.new)).fetched ≡ (D.state (disk_of self.old)).fetched }
+        ensures call { IsJournalCall (is_err result)
+            (D.state (disk_of self.old)) (D.state (disk_of self.new)) }
+        ensures fetched { (D.state (disk_of self.new)).fetched
+            ≡ (D.state (disk_of self.old)).fetched }
         ensures leaves { DropLeaves result self.old self.new }
     {
         let Some(current) = self.current else {
@@ -237,25 +245,29 @@ impl<D: Disk> Journal<D> {
         Ok(())
     }
 
-    /// Moves to the other side, or to side a where both are closed: it begins with this base, has the next
-    /// generation and no records. Six calls of the disk, or four where that side is closed and has two bytes
-    /// or more. The base is copied once, into memory that is given back.
+    /// Moves to the other side, or to side a where both are closed: it begins with this base, has
+    /// the next generation and no records. Six calls of the disk, or four where that side is closed
+    /// and has two bytes or more. The base is copied once, into memory that is given back.
     pub fn switch(&mut self, base: &[u8]) -> Result<u64, SwitchRefused>
         requires can { CanSwitch self.old }
         requires stands { IsTrue (D.state (disk_of self.old)).honest
             → (held : Option Held) × Stands held (D.state (disk_of self.old)) self.old }
-        ensures switched { OnOk result ((held : Option Held) → IsTrue (D.state (disk_of self.old)).honest
+        ensures switched { OnOk result ((held : Option Held)
+            → IsTrue (D.state (disk_of self.old)).honest
             → Stands held (D.state (disk_of self.old)) self.old
             → Stands (Some (switched held base.now)) (D.state (disk_of self.new)) self.new) }
         ensures images { (held : Option Held) → IsTrue (D.state (disk_of self.old)).honest
             → Stands held (D.state (disk_of self.old)) self.old
-            → AllSince (D.state (disk_of self.old)).clock (HoldsEither (other (switched held base.now).side)
+            → AllSince (D.state (disk_of self.old)).clock
+            (HoldsEither (other (switched held base.now).side)
             (D.state (disk_of self.old)).content held (Some (switched held base.now)))
             (D.state (disk_of self.new)) }
         ensures too_long { (result ≡ Err SwitchRefused.TooLong)
             ↔ ((MAX_BASE < length base.now) ⊎ (generation_of self.old ≡ 2 ^ 64 - 1)) }
-        ensures call { IsJournalCall (switch_failed result) (D.state (disk_of self.old)) (D.state (disk_of self.new)) }
-        ensures fetched { (D.state (disk_of self.new)).fetched ≡ (D.state (disk_of self.old)).fetched }
+        ensures call { IsJournalCall (switch_failed result)
+            (D.state (disk_of self.old)) (D.state (disk_of self.new)) }
+        ensures fetched { (D.state (disk_of self.new)).fetched
+            ≡ (D.state (disk_of self.old)).fetched }
         ensures leaves { SwitchLeaves result (length base.now) self.old self.new }
     {
         let (side, last, ready) = self.next_side();
@@ -322,9 +334,12 @@ impl<D: Station> Journal<D> {
     /// Reads the station's input, also where the journal is shut.
     pub fn read_in(&mut self, into: &mut [u8]) -> Got
         requires { 0 < length into.old }
-        ensures gives { ReadGives result into.new (D.left (disk_of self.old)) (D.left (disk_of self.new)) }
-        ensures taken { D.taken (disk_of self.new) ≡ D.taken (disk_of self.old) + bytes_given result }
-        ensures faults { CountsReadFailure result (D.read_faults (disk_of self.old)) (D.read_faults (disk_of self.new)) }
+        ensures gives { ReadGives result into.new
+            (D.left (disk_of self.old)) (D.left (disk_of self.new)) }
+        ensures taken { D.taken (disk_of self.new)
+            ≡ D.taken (disk_of self.old) + bytes_given result }
+        ensures faults { CountsReadFailure result
+            (D.read_faults (disk_of self.old)) (D.read_faults (disk_of self.new)) }
         ensures relation { D.reads result (disk_of self.old) (disk_of self.new) }
         ensures journal { IsAsBefore self.old self.new }
         ensures stands { (held : Option Held) → Stands held (D.state (disk_of self.old)) self.old
@@ -335,8 +350,10 @@ impl<D: Station> Journal<D> {
 
     /// Writes to the station's output, also where the journal is shut.
     pub fn write_out(&mut self, bytes: &[u8]) -> Result<(), Failed>
-        ensures adds { WriteAdds result bytes.now (D.written (disk_of self.old)) (D.written (disk_of self.new)) }
-        ensures faults { CountsFailure result (D.write_faults (disk_of self.old)) (D.write_faults (disk_of self.new)) }
+        ensures adds { WriteAdds result bytes.now
+            (D.written (disk_of self.old)) (D.written (disk_of self.new)) }
+        ensures faults { CountsFailure result
+            (D.write_faults (disk_of self.old)) (D.write_faults (disk_of self.new)) }
         ensures relation { D.writes result (disk_of self.old) (disk_of self.new) }
         ensures journal { IsAsBefore self.old self.new }
         ensures stands { (held : Option Held) → Stands held (D.state (disk_of self.old)) self.old
@@ -399,7 +416,8 @@ fn side_behind_gate(alloc: Global, generation: u64, base: &[u8]) -> Result<Vec<u
 /// What is written behind the gate of a record.
 fn fill_record(buffer: &mut Vec<u8>, payload: &[u8]) -> Result<(), AllocError>
     requires { length payload.now < 2 ^ 32 }
-    ensures { OnOk result (buffer.new.items ≡ four_bytes (length payload.now) ++ payload.now ++ CLOSED ∷ []) }
+    ensures { OnOk result (buffer.new.items
+        ≡ four_bytes (length payload.now) ++ payload.now ++ CLOSED ∷ []) }
 {
     let size = payload.len() as u32;
     buffer.clear();

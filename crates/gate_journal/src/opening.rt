@@ -70,7 +70,8 @@ pub fn is_ready(front: &[u8]) -> bool
     front.len() >= 2 && front[0] != OPEN
 }
 
-/// What an open side holds, whose front the window shows, and the place of the gate that ends its records.
+/// What an open side holds, whose front the window shows, and the place of the gate that ends its
+/// records.
 pub fn read_held<D: Disk>(
     alloc: Global,
     disk: &mut D,
@@ -111,7 +112,8 @@ pub fn read_held<D: Disk>(
     Ok((held, window.place))
 }
 
-/// What one side holds by itself. It reads each byte of the side at most once, and neither writes nor syncs.
+/// What one side holds by itself. It reads each byte of the side at most once, and neither writes
+/// nor syncs.
 pub fn layout<D: Disk>(alloc: Global, disk: &mut D, side: Side) -> Layout
     ensures layout { IsTrue (D.state disk.old).honest
         → LayoutIs result side (on side (D.state disk.old).content) }
@@ -177,8 +179,8 @@ impl From<ReadRefused> for SidesRefused {
     }
 }
 
-/// What both sides hold, the place of the gate that ends the records, and which sides are closed and have
-/// two bytes or more.
+/// What both sides hold, the place of the gate that ends the records, and which sides are closed
+/// and have two bytes or more.
 #[derive(Debug, Drop)]
 pub struct Found {
     pub held: Option<Held>,
@@ -239,7 +241,8 @@ fn picked(side: Side, a: Window, b: Window) -> Window
 
 /// Syncs both sides. After it, a crash leaves what a read gives.
 pub fn sync_both<D: Disk>(disk: &mut D) -> Result<(), Failed>
-    ensures settled { OnOk result (IsTrue (D.state disk.old).honest → IsSettled (D.state disk.new)) }
+    ensures settled { OnOk result (IsTrue (D.state disk.old).honest
+        → IsSettled (D.state disk.new)) }
     ensures sides { KeepsSides (D.state disk.old) (D.state disk.new) }
     ensures call { IsJournalCall (is_err result) (D.state disk.old) (D.state disk.new) }
     ensures fetched { (D.state disk.new).fetched ≡ (D.state disk.old).fetched }

@@ -10,7 +10,8 @@ pub const OPEN: u8 = 1;
 /// The gate that is written behind the last record.
 pub const CLOSED: u8 = 0;
 
-/// How many bytes come before the base: the gate of the side, its generation and the length of the base.
+/// How many bytes come before the base: the gate of the side, its generation and the length of the
+/// base.
 pub const HEAD: usize = 13;
 
 /// How many bytes come before a payload: the gate of the record and the length.

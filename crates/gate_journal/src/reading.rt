@@ -58,7 +58,8 @@ pub fn read_base<D: Disk>(
     requires shows { IsTrue (D.state disk.old).honest
         → Shows (on window.old.side (D.state disk.old).content) window.old }
     ensures base { IfOk result (λ base. IsTrue (D.state disk.old).honest
-        → base.items ≡ take size (drop window.old.place (on window.old.side (D.state disk.old).content))) }
+        → base.items ≡ take size (drop window.old.place
+        (on window.old.side (D.state disk.old).content))) }
     ensures place { OnOk result (window.new.place ≡ window.old.place + size) }
     ensures shows { OnOk result (IsTrue (D.state disk.old).honest
         → Shows (on window.old.side (D.state disk.old).content) window.new) }
@@ -77,8 +78,8 @@ pub fn read_base<D: Disk>(
     }
 }
 
-/// The records of a side, the first of which begins where the window does. The window then stands at the
-/// gate that ends them.
+/// The records of a side, the first of which begins where the window does. The window then stands
+/// at the gate that ends them.
 pub fn read_records<D: Disk>(
     disk: &mut D,
     window: &mut Window,
@@ -88,12 +89,12 @@ pub fn read_records<D: Disk>(
     requires shows { IsTrue (D.state disk.old).honest
         → Shows (on window.old.side (D.state disk.old).content) window.old }
     ensures records { OnOk result (IsTrue (D.state disk.old).honest
-        → AddsBetween (on window.old.side (D.state disk.old).content) window.old.place window.new.place
-        records.old records.new places.old.items places.new.items
+        → AddsBetween (on window.old.side (D.state disk.old).content)
+        window.old.place window.new.place records.old records.new places.old.items places.new.items
         × EndsAt (on window.old.side (D.state disk.old).content) window.new.place) }
     ensures bad { IfBad result (λ place. IsTrue (D.state disk.old).honest
-        → AddsBetween (on window.old.side (D.state disk.old).content) window.old.place place
-        records.old records.new places.old.items places.new.items
+        → AddsBetween (on window.old.side (D.state disk.old).content)
+        window.old.place place records.old records.new places.old.items places.new.items
         × BreaksAt (on window.old.side (D.state disk.old).content) place) }
     ensures reads { ReadsOn (D.state disk.old) (D.state disk.new) window.old window.new }
     ensures faults { CountsFault result (D.state disk.old).faults (D.state disk.new).faults }

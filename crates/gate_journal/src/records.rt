@@ -9,7 +9,8 @@ use std::marker::Model;
 
 /// A list of records, which contracts see as the list of their bytes.
 ///
-/// All bytes lie in one buffer, so that a million short records take little more memory than their bytes.
+/// All bytes lie in one buffer, so that a million short records take little more memory than their
+/// bytes.
 #[derive(Debug, Drop)]
 pub struct Records {
     bytes: Vec<u8>,

@@ -18,8 +18,8 @@ pub enum Stop {
     More,
 }
 
-/// Takes the whole records at the front of some bytes, of which the first stands at this place. It answers
-/// how many bytes they are, and why they end there.
+/// Takes the whole records at the front of some bytes, of which the first stands at this place. It
+/// answers how many bytes they are, and why they end there.
 pub fn take_records(
     text: &[u8],
     place: u64,
@@ -28,7 +28,9 @@ pub fn take_records(
 ) -> Result<(usize, Stop), AllocError>
     requires { place + length text.now < 2 ^ 64 }
     ensures inside { IfOk result (λ r. r.0 ≤ length text.now) }
-    ensures added { IfOk result (λ r. (added : List (List ℕ)) × Adds place (take r.0 text.now) added records.old records.new places.old.items places.new.items) }
+    ensures added { IfOk result (λ r. (added : List (List ℕ))
+        × Adds place (take r.0 text.now) added
+        records.old records.new places.old.items places.new.items) }
     ensures stop { IfOk result (λ r. StopsAt r.1 (drop r.0 text.now)) }
 {
     let mut at = 0;

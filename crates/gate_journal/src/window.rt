@@ -69,7 +69,8 @@ impl Window {
         ensures fetched { IfOk result (λ window. (D.state disk.new).fetched + left_behind window
             ≤ (D.state disk.old).fetched + window.length) }
         ensures unread { OnErr result ((D.state disk.new).fetched ≡ (D.state disk.old).fetched) }
-        ensures faults { CountsReadFault result (D.state disk.old).faults (D.state disk.new).faults }
+        ensures faults { CountsReadFault result
+            (D.state disk.old).faults (D.state disk.new).faults }
     {
         let mut window = Window {
             side,
@@ -102,7 +103,8 @@ impl Window {
             × (left_behind self.new ≡ 0 ⊎ (HEAD ≤ length self.new.bytes.items))) }
         ensures reads { ReadsOn (D.state disk.old) (D.state disk.new) self.old self.new }
         ensures unread { OnErr result ((D.state disk.new).fetched ≡ (D.state disk.old).fetched) }
-        ensures faults { CountsReadFault result (D.state disk.old).faults (D.state disk.new).faults }
+        ensures faults { CountsReadFault result
+            (D.state disk.old).faults (D.state disk.new).faults }
     {
         let old = self.bytes.len();
         let next = self.place + old as u64;
@@ -143,7 +145,8 @@ fn fill_from<D: Disk>(
     ensures bytes { OnOk result (IsTrue (D.state disk.old).honest → bytes.new ≡ take from bytes.old
         ++ take (length bytes.old - from) (drop at (on side (D.state disk.old).content))) }
     ensures reads { OnlyReads (D.state disk.old) (D.state disk.new) }
-    ensures fetched { Fetches result (length bytes.old - from) (D.state disk.old) (D.state disk.new) }
+    ensures fetched { Fetches result (length bytes.old - from)
+        (D.state disk.old) (D.state disk.new) }
     ensures faults { CountsFailure result (D.state disk.old).faults (D.state disk.new).faults }
 {
     disk.read(side, at, &mut bytes[from..])

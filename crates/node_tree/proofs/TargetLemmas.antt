@@ -14,7 +14,7 @@ use Rattle.node_tree.specs.declared.node.Node.{Node}
 use Rattle.node_tree.specs.declared.node.TheConstants.{DOT}
 use Rattle.node_tree.proofs.PlaceLemmas.{position_inside, position_none}
 use Rattle.node_tree.specs.Laws.{BeginsWithId, BeginsWithLongestId}
-use Rattle.node_tree.specs.Targets.{path_keys, keys_after_dot, down, largest, ends_key, id_front, from_id}
+use Rattle.node_tree.specs.Targets.{target_keys, keys_after_dot, down, largest, ends_key, id_front, from_id}
 use Rattle.node_tree.specs.Nodes.{child_of, id_at}
 
 -- the rest of a slice, as a range without an end gives it
@@ -22,7 +22,7 @@ pub take-rest : {X : Type 0} (k : ℕ) (xs : List X) → take (length xs - k) (d
 take-rest k xs = take_all (length xs - k) (drop k xs) (rw length-drop (omega arith))
 
 -- the first key ends at the first dot
-pub first_key : (text : List ℕ) (dot : ℕ) → position (λ b. nat_eq b DOT) text ≡ Some dot → path_keys text ≡ take dot text ∷ path_keys (drop (dot + 1) text)
+pub first_key : (text : List ℕ) (dot : ℕ) → position (λ b. nat_eq b DOT) text ≡ Some dot → target_keys text ≡ take dot text ∷ target_keys (drop (dot + 1) text)
 first_key text dot h =
     let p : ℕ → Bool = λ b. nat_eq b DOT in
     let at = position-Some p text dot 0 h in
@@ -30,7 +30,7 @@ first_key text dot h =
     rw (slice_split_first p text 0 (rw place at.0), place) refl
 
 -- a text with no dot is one key
-pub only_key : (text : List ℕ) → position (λ b. nat_eq b DOT) text ≡ None → path_keys text ≡ text ∷ []
+pub only_key : (text : List ℕ) → position (λ b. nat_eq b DOT) text ≡ None → target_keys text ≡ text ∷ []
 only_key text h =
     let p : ℕ → Bool = λ b. nat_eq b DOT in
     slice_split_none p text (λ k d inside. position_none p text h k d inside)
@@ -40,10 +40,10 @@ down-none nodes [] = refl
 down-none nodes (key ∷ keys) = down-none nodes keys
 
 -- a step down by the first of some keys
-pub down-step : (nodes : List Node) (n : ℕ) (text key rest : List ℕ) (next : Option ℕ) → path_keys text ≡ key ∷ path_keys rest → next ≡ child_of nodes n key → down nodes (Some n) (path_keys text) ≡ down nodes next (path_keys rest)
+pub down-step : (nodes : List Node) (n : ℕ) (text key rest : List ℕ) (next : Option ℕ) → target_keys text ≡ key ∷ target_keys rest → next ≡ child_of nodes n key → down nodes (Some n) (target_keys text) ≡ down nodes next (target_keys rest)
 down-step nodes n text key rest next split is = rw (split, is) refl
 
-pub down-last : (nodes : List Node) (n : ℕ) (text : List ℕ) → path_keys text ≡ text ∷ [] → down nodes (Some n) (path_keys text) ≡ child_of nodes n text
+pub down-last : (nodes : List Node) (n : ℕ) (text : List ℕ) → target_keys text ≡ text ∷ [] → down nodes (Some n) (target_keys text) ≡ child_of nodes n text
 down-last nodes n text only = rw only refl
 
 -- a child is one of the nodes

@@ -7,8 +7,8 @@ use Rattle.node_tree.specs.declared.node.TheConstants.{DOT, HASH}
 use Rattle.node_tree.specs.Nodes.{parent_of, child_of, id_at}
 
 -- the keys between the dots of a text
-abbrev pub path_keys : List ℕ → List (List ℕ)
-path_keys text = slice_split (λ b. b == DOT) text
+abbrev pub target_keys : List ℕ → List (List ℕ)
+target_keys text = slice_split (λ b. b == DOT) text
 
 -- the node that keys lead down to, each the key of a child
 abbrev pub down : List Node → Option ℕ → List (List ℕ) → Option ℕ
@@ -28,7 +28,7 @@ ends_key (b ∷ bs) = b == DOT
 -- the keys of a text that is empty or begins with a dot
 abbrev pub keys_after_dot : List ℕ → List (List ℕ)
 keys_after_dot [] = []
-keys_after_dot (b ∷ bs) = path_keys bs
+keys_after_dot (b ∷ bs) = target_keys bs
 
 -- the node whose id is the first bytes of a text, where they end the text or stand before a dot
 abbrev pub id_front : List Node → List ℕ → ℕ → Option ℕ
@@ -42,8 +42,8 @@ from_id nodes text =
 
 -- `#` leads to an id, a dot down from the source, and anything else down from the source's parent
 abbrev pub target_of : List Node → ℕ → List ℕ → Option ℕ
-target_of nodes source [] = down nodes (parent_of nodes source) (path_keys [])
+target_of nodes source [] = down nodes (parent_of nodes source) (target_keys [])
 target_of nodes source (b ∷ bs) =
     if b == HASH then from_id nodes bs
-    else if b == DOT then down nodes (Some source) (path_keys bs)
-    else down nodes (parent_of nodes source) (path_keys (b ∷ bs))
+    else if b == DOT then down nodes (Some source) (target_keys bs)
+    else down nodes (parent_of nodes source) (target_keys (b ∷ bs))

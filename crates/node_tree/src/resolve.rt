@@ -3,7 +3,7 @@
 ghost use Rattle.std.specs.Prelude.{◌≡◌, ◌<◌, ◌≤◌, Some, [], ◌∷◌, length, drop, IfNone, IfSome, ◌==◌};
 ghost use Rattle.std.specs.List.{position};
 ghost use Rattle.node_tree.specs.Nodes.{parent_of};
-ghost use Rattle.node_tree.specs.Targets.{down, ends_key, from_id, id_front, keys_after_dot, path_keys, target_of};
+ghost use Rattle.node_tree.specs.Targets.{down, ends_key, from_id, id_front, keys_after_dot, target_keys, target_of};
 
 use crate::node::{DOT, HASH};
 use crate::outline::Outline;
@@ -27,7 +27,7 @@ impl Outline {
     /// Down from the parent of a node by keys with dots between them.
     fn down_beside(&self, source: u32, keys: &[u8]) -> Option<u32>
         requires { source < length self.now }
-        ensures led { result ≡ down self.now (parent_of self.now source) (path_keys keys.now) }
+        ensures led { result ≡ down self.now (parent_of self.now source) (target_keys keys.now) }
         ensures inside { IfSome result (λ n. n < length self.now) }
     {
         match self.parent(source) {
@@ -77,7 +77,7 @@ impl Outline {
     /// Down from a node by keys with dots between them.
     fn down(&self, from: u32, keys: &[u8]) -> Option<u32>
         requires { from < length self.now }
-        ensures led { result ≡ down self.now (Some from) (path_keys keys.now) }
+        ensures led { result ≡ down self.now (Some from) (target_keys keys.now) }
         ensures inside { IfSome result (λ n. n < length self.now) }
     {
         let mut at = from;
@@ -92,9 +92,9 @@ impl Outline {
 
 /// The first key and what follows its dot, where there is a dot.
 fn split_key(keys: &[u8]) -> Option<(&[u8], &[u8])>
-    ensures none { IfNone result (path_keys keys.now ≡ keys.now ∷ []) }
+    ensures none { IfNone result (target_keys keys.now ≡ keys.now ∷ []) }
     ensures some { IfSome result (λ parts.
-        path_keys keys.now ≡ parts.0.now ∷ path_keys parts.1.now) }
+        target_keys keys.now ≡ parts.0.now ∷ target_keys parts.1.now) }
     ensures shorter { IfSome result (λ parts. length parts.1.now < length keys.now) }
 {
     let dot = first_dot(keys)?;

@@ -39,6 +39,21 @@ use Rattle.office_types.specs.Records.{is_active_machine, parent_of, with_actor}
 use Rattle.office_types.specs.Step.{after_conclusion, after_outcome, or_failure, took, with_entry, with_own}
 use Rattle.office_types.specs.Timers.{due_by, not_due}
 
+-- a fact that each kind of change keeps but for the taking of a letter
+pub record IsKeptBesideTaking (K : OfficeState → Type 0) : Type 0 where
+  pub letter : (state : OfficeState) (from : Origin) (number : ℕ) (event : Value) → K state → K (with_letter state from number event)
+  pub timers : (state : OfficeState) (timers' : List Timer) (next : ℕ) → K state → K (record state { timers = timers'; next_timer = next })
+  pub own : (state : OfficeState) (number : ℕ) (own' : Own) → K state → K (with_own number own' state)
+  pub born : (state : OfficeState) (parent : Option ℕ) (system : Option (List ℕ)) (own' : Option Own) (item : Option Item) → K state → K (with_record state (fresh_record state.next_actor parent system own' item))
+  pub kid : (state : OfficeState) (number : ℕ) (id : List ℕ) (child : ℕ) → K state → K (with_actor state number (with_kid id child))
+  pub no_kid : (state : OfficeState) (number : ℕ) (id : List ℕ) → K state → K (with_actor state number (without_kid id))
+  pub gone : (state : OfficeState) (number : ℕ) → K state → K (removed number state)
+  pub done : (state : OfficeState) (number : ℕ) (output : Value) → K state → K (after_end (done_record output) number state)
+  pub failed : (state : OfficeState) (number : ℕ) (error : Value) → K state → K (after_end (error_record error) number state)
+  pub entry : (state : OfficeState) → K state → K (with_entry state)
+  pub moment : (state : OfficeState) (moment' : ℕ) (timers' : List Timer) → K state → K (record state { moment = moment'; timers = timers' })
+  pub callers : (state : OfficeState) (callers' : List Caller) → K state → K (record state { callers = callers' })
+
 -- a fact that each kind of change keeps
 pub record IsKept (K : OfficeState → Type 0) : Type 0 where
   pub letter : (state : OfficeState) (from : Origin) (number : ℕ) (event : Value) → K state → K (with_letter state from number event)
@@ -60,7 +75,40 @@ abbrev Holds : (OfficeState → Type 0) → Fitted → Type 0
 Holds K (Ok state) = K state
 Holds K (Err name) = ⊤
 
-module _ (K : OfficeState → Type 0) (kept : IsKept K) where
+pub beside_taking : (K : OfficeState → Type 0) → IsKept K → IsKeptBesideTaking K
+beside_taking K kept = record {
+  letter = kept.letter;
+  timers = kept.timers;
+  own = kept.own;
+  born = kept.born;
+  kid = kept.kid;
+  no_kid = kept.no_kid;
+  gone = kept.gone;
+  done = kept.done;
+  failed = kept.failed;
+  entry = kept.entry;
+  moment = kept.moment;
+  callers = kept.callers;
+}
+
+pub with_taking : (K : OfficeState → Type 0) → IsKeptBesideTaking K → ((state : OfficeState) (number : ℕ) → K state → K (without_head state number)) → IsKept K
+with_taking K kept taking = record {
+  letter = kept.letter;
+  timers = kept.timers;
+  own = kept.own;
+  head = taking;
+  born = kept.born;
+  kid = kept.kid;
+  no_kid = kept.no_kid;
+  gone = kept.gone;
+  done = kept.done;
+  failed = kept.failed;
+  entry = kept.entry;
+  moment = kept.moment;
+  callers = kept.callers;
+}
+
+module _ (K : OfficeState → Type 0) (kept : IsKeptBesideTaking K) where
   holds_option : {X : Type 0} (o : Option X) (f : X → Fitted) (otherwise : Fitted) → ((x : X) → Holds K (f x)) → Holds K otherwise → Holds K (option_map_or f o otherwise)
   holds_option None f otherwise each none = none
   holds_option (Some x) f otherwise each none = each x
@@ -148,12 +196,11 @@ module _ (K : OfficeState → Type 0) (kept : IsKept K) where
   failure_or number before (Ok state) is has = has
   failure_or number before (Err name) is has = failure_kept number (fault_error name) before is
 
-  -- a step keeps it
-  pub took_keeps : (definitions : OfficeDefinitions) (number : ℕ) (outcome : Outcome) (state : OfficeState) → K state → K (took definitions number outcome state)
+  -- what follows the taking of the letter keeps it
+  pub rest_keeps : (definitions : OfficeDefinitions) (number : ℕ) (outcome : Outcome) (state : OfficeState) → K (without_head state number) → K (took definitions number outcome state)
   unfolding took
-  took_keeps definitions number outcome state is =
+  rest_keeps definitions number outcome state head =
       let taken : OfficeState = without_head state number in
-      let head = kept.head state number is in
       kept.entry _ (failure_or number taken (after_outcome definitions number outcome taken) head
       (holds_then (after_effects definitions number outcome.effects (with_own number outcome.own taken)) (after_conclusion definitions number outcome.own outcome.end)
       (effects_hold definitions number outcome.effects (with_own number outcome.own taken) (kept.own taken number outcome.own head))
@@ -179,9 +226,9 @@ module _ (K : OfficeState → Type 0) (kept : IsKept K) where
       delivered (due_by moment state.timers) (record state { moment = moment; timers = not_due moment state.timers }) (kept.moment state moment (not_due moment state.timers) is)
 
   -- a decision keeps it
-  pub decided_keeps : (definitions : OfficeDefinitions) (state : OfficeState) (request : Request) → K state → K (decided definitions state request).after
+  pub decision_keeps : (definitions : OfficeDefinitions) (state : OfficeState) (request : Request) → K state → K (decided definitions state request).after
   unfolding decided
-  decided_keeps definitions state request is = answer (undecided state request) where
+  decision_keeps definitions state request is = answer (undecided state request) where
     decision : (row : Row) → K (decision_by definitions state request row).after
     decision (Some reply) = kept.entry _ (kept.callers state _ is)
     decision None = kept.entry _ (kept.callers (after_grant definitions request.caller request.ask state) _ (grant_keeps definitions request.caller request.ask state is))
@@ -190,6 +237,15 @@ module _ (K : OfficeState → Type 0) (kept : IsKept K) where
     answer (Some reply) = is
     answer None = decision (refusal definitions state request.ask)
 
+module _ (K : OfficeState → Type 0) (kept : IsKept K) where
+  -- a step keeps it
+  pub took_keeps : (definitions : OfficeDefinitions) (number : ℕ) (outcome : Outcome) (state : OfficeState) → K state → K (took definitions number outcome state)
+  took_keeps definitions number outcome state is = rest_keeps K (beside_taking K kept) definitions number outcome state (kept.head state number is)
+
+  -- a decision does
+  pub decided_keeps : (definitions : OfficeDefinitions) (state : OfficeState) (request : Request) → K state → K (decided definitions state request).after
+  decided_keeps = decision_keeps K (beside_taking K kept)
+
   -- entries keep it
   pub entries_keep : (definitions : OfficeDefinitions) (macrostep : Macrostep) (entries : List Entry) (state : OfficeState) → K state → K (after definitions macrostep state entries)
   entries_keep definitions macrostep [] state is = is
@@ -197,4 +253,4 @@ module _ (K : OfficeState → Type 0) (kept : IsKept K) where
       entries_keep definitions macrostep entries (decided definitions state request).after (decided_keeps definitions state request is)
   entries_keep definitions macrostep (Step number ∷ entries) state is =
       entries_keep definitions macrostep entries (after_entry definitions macrostep state (Step number))
-      (kept_option (next_outcome macrostep state number) _ state (λ outcome. took_keeps definitions number outcome state is) is)
+      (kept_option K (beside_taking K kept) (next_outcome macrostep state number) _ state (λ outcome. took_keeps definitions number outcome state is) is)

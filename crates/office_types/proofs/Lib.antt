@@ -8,7 +8,12 @@ mod PlainLemmas
 mod CanonicalLineLemmas
 mod CallerLemmas
 mod ChangeLemmas
+mod RecordLemmas
 mod LetterLemmas
+mod NumberLemmas
+mod LetterOrderLemmas
+mod TakenLetterLemmas
+mod LostLetterLemmas
 mod ValidityListLemmas
 mod ValidityTreeLemmas
 mod ValidityStopLemmas

@@ -4,9 +4,11 @@ use Rattle.std.specs.List.{list_all}
 use Rattle.xs_data.specs.Ascii.{small_a, small_z, digit_zero, digit_nine, hyphen}
 use Rattle.office_types.specs.declared.limits.TheConstants.{MAX_CALLER}
 
+-- a to z
 abbrev pub is_lowercase : ℕ → Bool
 is_lowercase byte = nat_le small_a byte && nat_le byte small_z
 
+-- 0 to 9
 abbrev pub is_digit : ℕ → Bool
 is_digit byte = nat_le digit_zero byte && nat_le byte digit_nine
 

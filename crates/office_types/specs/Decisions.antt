@@ -35,6 +35,7 @@ pub record Decision : Type 0 where
 abbrev pub Row : Type 0
 Row = Option Reply
 
+-- a reply with this status, word and value
 abbrev pub reply_with : ℕ → Word → ℕ → Reply
 reply_with status word value = record { status = status; word = word; value = value }
 

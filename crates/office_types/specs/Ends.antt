@@ -51,10 +51,11 @@ removed number state =
 abbrev pub ended_record : Status → ActorRecord → ActorRecord
 ended_record status actor = record actor { status = status; system = None; mailbox = [] }
 
--- the record of one that is done, and of one that ended in error
+-- the record of one that is done
 abbrev pub done_record : Value → ActorRecord → ActorRecord
 done_record output actor = record (ended_record status.Done actor) { output = output }
 
+-- the record of one that ended in error
 abbrev pub error_record : Value → ActorRecord → ActorRecord
 error_record error actor = record (ended_record status.Error actor) { error = error }
 

@@ -1,7 +1,9 @@
 -- What follows from the definitions, in the words of one who reads lines and entries.
-use Rattle.std.specs.Prelude.{◌≡◌, ◌<◌, ◌≤◌, ℕ, List, [], ◌∷◌, length, Contains, FitsSigned, IsTrue, IsUtf8, Option, Some, ⊤, if◌then◌else◌}
+use Rattle.std.specs.Prelude.{◌≡◌, ◌≢◌, ◌⊎◌, ◌<◌, ◌≤◌, ℕ, true, List, [], ◌∷◌, ◌++◌, length, map, Option, None, Some, All, AllPairs, Contains, FitsSigned, IsTrue, IsUtf8, ⊤, if◌then◌else◌, option_to_list}
 use Rattle.std.specs.Int.{w64}
 use Rattle.std.specs.List.{AllByRecursion, range_with_len}
+use Rattle.std.specs.List.Sorted.{IsStrictlyIncreasing}
+use Rattle.std.specs.Option.{option_map, option_map_or}
 use Rattle.std.specs.Str.{bytes_eq}
 use Rattle.xs_model.specs.declared.value.Value.{Value}
 use Rattle.xs_model.specs.declared.value.Value.TheFolds.{every-Value}
@@ -11,6 +13,7 @@ use Rattle.xs_model.specs.Rising.{KeysRise}
 use Rattle.office_types.specs.declared.entry.Entry.{Entry}
 use Rattle.office_types.specs.declared.entry.Entry.TheVariants.{Decided, Step}
 use Rattle.office_types.specs.declared.limits.TheConstants.{MAX_ENTRIES}
+use Rattle.office_types.specs.declared.office.ActorRecord.{ActorRecord}
 use Rattle.office_types.specs.declared.office.Letter.{Letter}
 use Rattle.office_types.specs.declared.office.OfficeState.{OfficeState}
 use Rattle.office_types.specs.declared.outcome.Outcome.{Outcome}
@@ -18,11 +21,11 @@ use Rattle.office_types.specs.declared.outcome.Own.{Own}
 use Rattle.office_types.specs.declared.request.Request.{Request}
 use Rattle.office_types.specs.Decisions.{decided, next_number}
 use Rattle.office_types.specs.Definitions.{AreLinked, OfficeDefinitions}
-use Rattle.office_types.specs.Entries.{AreLegal, IsAllowedMacrostep, Macrostep, after}
+use Rattle.office_types.specs.Entries.{AreLegal, IsAllowedMacrostep, Macrostep, after, after_entry, head_of}
 use Rattle.office_types.specs.JsonValues.{MeansValue}
 use Rattle.office_types.specs.Observation.{own_of}
 use Rattle.office_types.specs.Outcomes.{IsAllowedOutcome}
-use Rattle.office_types.specs.Records.{empty_office, is_ready}
+use Rattle.office_types.specs.Records.{empty_office, is_active_machine, is_ready, record_of}
 use Rattle.office_types.specs.RequestLines.{IsEntryText, IsRequest, IsRequestLine, canonical_line, entry_text}
 use Rattle.office_types.specs.Requests.{IsNumber}
 use Rattle.office_types.specs.Step.{took}
@@ -92,6 +95,95 @@ LettersWaitedBefore =
     (definitions : OfficeDefinitions) (macrostep : Macrostep) (state : OfficeState) (entries : List Entry) (letter : Letter)
     → Contains (letters_of (after definitions macrostep state entries).actors) letter → letter.number < state.next_letter
     → Contains (letters_of state.actors) letter
+
+-- the letters that wait for an actor
+abbrev pub mailbox_of : OfficeState → ℕ → List Letter
+mailbox_of state number = option_map_or (λ (actor : ActorRecord). actor.mailbox) (record_of state number) []
+
+-- records rise by number, and letters do in each mailbox; the numbers of both were given, and no letter has that of another one
+pub record AreNumbersInOrder (state : OfficeState) : Type 0 where
+  pub actors_rise : IsStrictlyIncreasing (map (λ (actor : ActorRecord). actor.number) state.actors)
+  pub actors_given : All (λ (actor : ActorRecord). actor.number < state.next_actor) state.actors
+  pub letters_given : All (λ (letter : Letter). letter.number < state.next_letter) (letters_of state.actors)
+  pub letters_once : AllPairs (λ (a b : Letter). a.number ≢ b.number) (letters_of state.actors)
+  pub mailboxes_rise : All (λ (actor : ActorRecord). IsStrictlyIncreasing (map (λ (letter : Letter). letter.number) actor.mailbox)) state.actors
+
+-- the numbers of an office in which nothing has happened and of each valid office are in order, and entries leave them so
+pub record NumbersAreInOrder : Type 0 where
+  pub empty : AreNumbersInOrder empty_office
+  pub valid : (definitions : OfficeDefinitions) (state : OfficeState) → IsValidOffice definitions state → AreNumbersInOrder state
+  pub later :
+      (definitions : OfficeDefinitions) (macrostep : Macrostep) (state : OfficeState) (entries : List Entry)
+      → AreNumbersInOrder state → AreNumbersInOrder (after definitions macrostep state entries)
+
+-- a letter that waits at a moment, and didn't at an earlier one, has a greater number than those that waited then
+abbrev pub LaterLettersHaveGreaterNumbers : Type 0
+LaterLettersHaveGreaterNumbers =
+    (definitions : OfficeDefinitions) (macrostep : Macrostep) (state : OfficeState) (entries : List Entry) (earlier later : Letter)
+    → AreNumbersInOrder state → Contains (letters_of state.actors) earlier
+    → Contains (letters_of (after definitions macrostep state entries).actors) later → (Contains (letters_of state.actors) later → ⊥)
+    → earlier.number < later.number
+
+-- a number enters one mailbox: where it waits at two moments, it is the same letter, and waits for the same actor
+abbrev pub LettersEnterOneMailbox : Type 0
+LettersEnterOneMailbox =
+    (definitions : OfficeDefinitions) (macrostep : Macrostep) (state : OfficeState) (before between : List Entry) (actor actor' : ℕ) (letter letter' : Letter)
+    → AreNumbersInOrder state
+    → Contains (mailbox_of (after definitions macrostep state before) actor) letter
+    → Contains (mailbox_of (after definitions macrostep state (before ++ between)) actor') letter'
+    → letter.number ≡ letter'.number → (actor ≡ actor') × (letter ≡ letter')
+
+-- a letter that an actor took
+pub record TakenLetter : Type 0 where
+  pub actor : ℕ
+  pub letter : Letter
+
+-- the letter that an entry takes: a step takes the head of its actor's mailbox
+abbrev pub taken_letter : OfficeState → Entry → Option TakenLetter
+taken_letter state (Decided request) = None
+taken_letter state (Step number) = option_map (λ (letter : Letter). record { actor = number; letter = letter }) (head_of state number)
+
+-- the letters that entries take, in their order
+abbrev pub letters_taken : OfficeDefinitions → Macrostep → OfficeState → List Entry → List TakenLetter
+letters_taken definitions macrostep state [] = []
+letters_taken definitions macrostep state (entry ∷ entries) =
+    option_to_list (taken_letter state entry) ++ letters_taken definitions macrostep (after_entry definitions macrostep state entry) entries
+
+-- each number is taken once, and those of one actor in their order, which is that in which they were sent, whoever sent them
+pub record AreTakenInTurn (taken : List TakenLetter) : Type 0 where
+  pub once : AllPairs (λ (a b : TakenLetter). a.letter.number ≢ b.letter.number) taken
+  pub in_order : AllPairs (λ (a b : TakenLetter). a.actor ≡ b.actor → a.letter.number < b.letter.number) taken
+
+-- legal entries take letters in turn
+abbrev pub LettersAreTakenInTurn : Type 0
+LettersAreTakenInTurn =
+    (definitions : OfficeDefinitions) (macrostep : Macrostep) (state : OfficeState) (entries : List Entry)
+    → AreNumbersInOrder state → AreLegal definitions macrostep state entries → AreTakenInTurn (letters_taken definitions macrostep state entries)
+
+-- the letter that a step takes is the head of its actor's mailbox, and the earliest there; once it is taken, and whatever
+-- entries follow, no letter of its number waits in any mailbox, and none is taken
+pub record IsTakenAsHead (definitions : OfficeDefinitions) (macrostep : Macrostep) (state : OfficeState) (number : ℕ) (entries : List Entry) : Type 0 where
+  pub letter : Letter
+  pub head : head_of state number ≡ Some letter
+  pub earliest : All (λ (other : Letter). letter.number ≤ other.number) (mailbox_of state number)
+  pub gone : All (λ (other : Letter). other.number ≢ letter.number) (letters_of (after definitions macrostep state (Step number ∷ entries)).actors)
+  pub once : All (λ (other : TakenLetter). other.letter.number ≢ letter.number) (letters_taken definitions macrostep (after_entry definitions macrostep state (Step number)) entries)
+
+-- each step among legal entries takes one
+abbrev pub StepsTakeHeads : Type 0
+StepsTakeHeads =
+    (definitions : OfficeDefinitions) (macrostep : Macrostep) (state : OfficeState) (before : List Entry) (number : ℕ) (entries : List Entry)
+    → AreNumbersInOrder state → AreLegal definitions macrostep state (before ++ Step number ∷ entries)
+    → IsTakenAsHead definitions macrostep (after definitions macrostep state before) number entries
+
+-- no letter is lost: what waits for an actor that stays active still waits for it, or was taken by it
+abbrev pub NoLetterIsLost : Type 0
+NoLetterIsLost =
+    (definitions : OfficeDefinitions) (macrostep : Macrostep) (state : OfficeState) (entries : List Entry) (number : ℕ) (letter : Letter)
+    → AreNumbersInOrder state → AreLegal definitions macrostep state entries → Contains (mailbox_of state number) letter
+    → is_active_machine (after definitions macrostep state entries) number ≡ true
+    → Contains (mailbox_of (after definitions macrostep state entries) number) letter
+    ⊎ Contains (letters_taken definitions macrostep state entries) (record { actor = number; letter = letter })
 
 -- ---- validity
 

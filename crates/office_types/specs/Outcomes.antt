@@ -71,6 +71,7 @@ pub record IsUndone (own : Own) (outcome : Outcome) : Type 0 where
   pub effects : outcome.effects ≡ []
   pub micros : outcome.micros ≡ []
 
+-- what the rules allow, by how the step left its actor
 abbrev pub IsAllowedBy : OfficeDefinitions → Own → Outcome → End → Type 0
 IsAllowedBy definitions own outcome end.Active = IsThrough definitions own outcome
 IsAllowedBy definitions own outcome (end.Done output) = IsThrough definitions own outcome × IsTrue (is_short output)

@@ -23,6 +23,7 @@ pub record IsHistory (nodes : Nodes) (history : History) : Type 0 where
   pub in_order : IsStrictlyIncreasing (history_nodes history)
   pub fit : IsFitHistory nodes history
 
+-- the layer is that of a map
 abbrev pub is_map_layer : {X : Type 0} → Value-F X → Bool
 is_map_layer (Value-F.Map members) = true
 is_map_layer _ = false

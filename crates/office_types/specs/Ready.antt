@@ -12,6 +12,7 @@ pub record Head : Type 0 where
   pub actor : ℕ
   pub letter : ℕ
 
+-- an actor with this head letter
 abbrev pub head_with : ActorRecord → Letter → Head
 head_with actor letter = record { actor = actor.number; letter = letter.number }
 

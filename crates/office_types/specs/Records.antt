@@ -33,6 +33,7 @@ with_actor state number change =
 abbrev pub is_given : OfficeState → ℕ → Bool
 is_given state number = nat_lt 0 number && nat_lt number state.next_actor
 
+-- of the four statuses one alone is that of an actor that has not ended
 abbrev pub is_active_status : Status → Bool
 is_active_status status.Active = true
 is_active_status status.Done = false

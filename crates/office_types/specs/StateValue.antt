@@ -13,6 +13,7 @@ pub record ActiveNode : Type 0 where
   pub node : Node
   pub value : Value
 
+-- a node of this kind can be active with no active child
 abbrev pub is_leaf_kind : Kind → Bool
 is_leaf_kind kind.Atomic = true
 is_leaf_kind kind.Final = true

@@ -45,6 +45,7 @@ abbrev pub IsOrigin : OfficeState → Origin → Type 0
 IsOrigin state (origin.Caller name) = Unit {0}
 IsOrigin state (origin.Actor number) = IsGiven state.next_actor number
 
+-- a letter that waits: its number was given, and so was that of the actor that wrote it
 pub record IsLetter (state : OfficeState) (letter : Letter) : Type 0 where
   pub number : IsGiven state.next_letter letter.number
   pub origin : IsOrigin state letter.origin
@@ -54,6 +55,7 @@ pub record IsLetter (state : OfficeState) (letter : Letter) : Type 0 where
 abbrev pub is_init : Letter → Bool
 is_init letter = option_map_or (bytes_eq init_type) (event_type letter.event) false
 
+-- no letter begins an actor
 abbrev pub HasNoInit : List Letter → Type 0
 HasNoInit letters = All (λ letter. is_init letter ≡ false) letters
 
@@ -126,6 +128,7 @@ pub record IsActor (definitions : OfficeDefinitions) (state : OfficeState) (acto
 
 -- ---- timers, names, callers
 
+-- a timer that stands: an active machine actor owns it, its target was given a number, and its event begins no actor
 pub record IsTimer (state : OfficeState) (timer : Timer) : Type 0 where
   pub order : IsGiven state.next_timer timer.order
   pub owner : IsTrue (is_active_machine state timer.owner)
@@ -158,6 +161,7 @@ decided_words =
 abbrev pub IsDecidedReply : Reply → Type 0
 IsDecidedReply reply = Contains decided_words (reply.status, reply.word)
 
+-- a caller that is kept: it has a reply, and each of its replies decides a request
 pub record IsCaller (caller : Caller) : Type 0 where
   pub name : IsTrue (is_caller caller.name)
   pub some : 0 < length caller.replies
@@ -186,6 +190,7 @@ pub record IsWithinLimits (state : OfficeState) : Type 0 where
   pub replies : kept_replies state ≤ MAX_REPLIES
   pub entries : state.entries ≤ MAX_ENTRIES
 
+-- all that holds of an office at each moment
 pub record IsValidOffice (definitions : OfficeDefinitions) (state : OfficeState) : Type 0 where
   pub numbers : HasNumbersLeft state
   pub limits : IsWithinLimits state

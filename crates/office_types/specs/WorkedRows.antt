@@ -40,6 +40,7 @@ pub data Line : Type 0 where
   request : List ℕ → ℕ → Ask → Line
   turn : ℕ → Outcome → Line
 
+-- a request by its parts
 abbrev pub request_of : List ℕ → ℕ → Ask → Request
 request_of caller number asked = record { caller = caller; number = number; ask = asked }
 
@@ -70,6 +71,7 @@ pub record Works (definitions : OfficeDefinitions) (lines : List Line) (replies 
 
 -- ---- the parts of offices
 
+-- a node by its parts
 abbrev pub node : Option ℕ → Kind → List ℕ → List ℕ → Node
 node parent kind key id = record { parent = parent; kind = kind; key = key; id = id }
 
@@ -81,9 +83,11 @@ machine id nodes = record { id = id; nodes = nodes; observed = map (λ (n : Node
 abbrev pub atomic : List ℕ → MachineOutline
 atomic id = machine id (node None kind.Atomic [] id ∷ [])
 
+-- a row of the table of actors that is a machine
 abbrev pub runs : List ℕ → ℕ → ActorLogic
 runs name number = record { name = name; machine = Some number }
 
+-- a map with no members
 abbrev pub empty : Value
 empty = value.Map []
 
@@ -91,15 +95,19 @@ empty = value.Map []
 abbrev pub event : List ℕ → Value
 event type = value.Map ((codes "type", value.Text type) ∷ [])
 
+-- the event that begins an actor with this input
 abbrev pub init : Value → Value
 init input = value.Map ((codes "input", input) ∷ (codes "type", value.Text (codes "xstate.init")) ∷ [])
 
+-- the error of an actor that a fault ended
 abbrev pub fault : List ℕ → Value
 fault name = value.Map ((codes "fault", value.Text name) ∷ [])
 
+-- the caller of all rows
 abbrev pub ann : List ℕ
 ann = codes "ann"
 
+-- a start with input null
 abbrev pub start : List ℕ → Option (List ℕ) → Ask
 start machine system = ask.Start machine system value.Null
 
@@ -139,14 +147,17 @@ actor number parent part kids mailbox = record {
 abbrev pub over : ActorRecord → Status → Value → Value → ActorRecord
 over a what output error = record a { status = what; output = output; error = error }
 
+-- a letter by its parts
 abbrev pub letter : ℕ → Origin → Value → Letter
 letter number from event = record { number = number; origin = from; event = event }
 
+-- a caller by its parts
 abbrev pub caller : List ℕ → List Reply → Caller
 caller name replies = record { name = name; replies = replies }
 
 -- ---- a repeat is answered by the kept reply
 
+-- a switch that is off or on
 abbrev pub toggle_office : OfficeDefinitions
 toggle_office = record {
   machines = machine (codes "toggle")
@@ -156,6 +167,7 @@ toggle_office = record {
   actors = [];
 }
 
+-- a number that was decided gets its reply again, whatever is asked for under it
 abbrev pub RepeatsAreKept : Type 0
 RepeatsAreKept = Works toggle_office
     (request ann 1 (start (codes "toggle") None) ∷ request ann 1 (start (codes "toggle") None) ∷ request ann 1 (ask.Send 9 (event (codes "Q"))) ∷ [])
@@ -174,6 +186,7 @@ RepeatsAreKept = Works toggle_office
 
 -- ---- a gap is refused, and takes no number
 
+-- a third request comes before the second, and again after it, and another caller begins with its second
 abbrev pub GapsAreRefused : Type 0
 GapsAreRefused = Works toggle_office
     (request ann 1 (start (codes "toggle") None)
@@ -197,6 +210,7 @@ GapsAreRefused = Works toggle_office
 
 -- ---- numbers that were never given, and actors that ended
 
+-- a machine that ends at its first event
 abbrev pub once_office : OfficeDefinitions
 once_office = record {
   machines = machine (codes "once")
@@ -206,6 +220,7 @@ once_office = record {
   actors = [];
 }
 
+-- what is sent to an actor that is done, or that was never there, and a start of no machine are refused
 abbrev pub EndedActorsTakeNothing : Type 0
 EndedActorsTakeNothing = Works once_office
     (request ann 1 (start (codes "once") None)
@@ -231,6 +246,7 @@ EndedActorsTakeNothing = Works once_office
 
 -- ---- an error climbs from child to parent
 
+-- three machines that stand below each other, and one that does nothing
 abbrev pub climbing_office : OfficeDefinitions
 climbing_office = record {
   machines =
@@ -240,12 +256,15 @@ climbing_office = record {
   actors = runs (codes "mid") 1 ∷ runs (codes "low") 2 ∷ runs (codes "idle") 3 ∷ [];
 }
 
+-- the topmost actor with its child
 abbrev pub climbing_top : Own
 climbing_top = own 0 (0 ∷ 1 ∷ []) empty (codes "0.top.a" ∷ []) 0
 
+-- the actor in the middle with its two children
 abbrev pub climbing_mid : Own
 climbing_mid = own 1 (0 ∷ 1 ∷ []) empty (codes "0.mid.a" ∷ codes "1.mid.a" ∷ []) 0
 
+-- the lowest actor ends in error, and then those above it; the one beside it is stopped
 abbrev pub ErrorsClimb : Type 0
 ErrorsClimb = Works climbing_office
     (request ann 1 (start (codes "top") None)
@@ -277,9 +296,11 @@ ErrorsClimb = Works climbing_office
 
 -- ---- a spawn under a system name that is held ends its actor in error, which keeps its own part
 
+-- a machine that does nothing, and one that spawns it
 abbrev pub naming_office : OfficeDefinitions
 naming_office = record { machines = atomic (codes "idle") ∷ atomic (codes "sp") ∷ []; actors = runs (codes "idle") 0 ∷ [] }
 
+-- the spawn finds its name held
 abbrev pub HeldNamesAreFaults : Type 0
 HeldNamesAreFaults = Works naming_office
     (request ann 1 (start (codes "idle") (Some (codes "desk")))
@@ -307,6 +328,7 @@ HeldNamesAreFaults = Works naming_office
 
 -- ---- work items are resolved once, and go with the state that invoked them
 
+-- a machine that asks somebody outside for a signature
 abbrev pub signing_office : OfficeDefinitions
 signing_office = record {
   machines = machine (codes "w")
@@ -317,10 +339,12 @@ signing_office = record {
   actors = record { name = codes "sign"; machine = None } ∷ [];
 }
 
+-- its first step makes the work item
 abbrev pub asks_for_signature : Outcome
 asks_for_signature = gave (own 0 (0 ∷ 1 ∷ []) empty (codes "s" ∷ []) 0) end.Active
     (effect.Spawn (codes "s") 0 (value.Map ((codes "doc", value.Int (pos 5)) ∷ [])) None ∷ []) (codes "xstate.init" ∷ [])
 
+-- the work item
 abbrev pub signature : ℕ → ℕ → Item
 signature number parent = record { actor = number; src = codes "sign"; input = value.Map ((codes "doc", value.Int (pos 5)) ∷ []) }
 
@@ -360,6 +384,7 @@ ItemsTellTheirParents = Works signing_office
       next_timer = 1;
     })
 
+-- two actors leave the state that invoked the item, the one after it was resolved and the other before
 abbrev pub ItemsGoWithTheirState : Type 0
 ItemsGoWithTheirState = Works signing_office
     (request ann 1 (start (codes "w") None)
@@ -393,6 +418,7 @@ ItemsGoWithTheirState = Works signing_office
 
 -- ---- timers: one is cancelled, those of an actor that is done are dropped, and those that are due come in order
 
+-- a machine that logs what it is sent, and one that ends
 abbrev pub timing_office : OfficeDefinitions
 timing_office = record {
   machines =
@@ -405,12 +431,15 @@ timing_office = record {
   actors = [];
 }
 
+-- a timer of 100 milliseconds to the actor itself
 abbrev pub in_100 : List ℕ → List ℕ → Effect
 in_100 id type = effect.Schedule (Some id) 100 to.Own (event type)
 
+-- a context with a log
 abbrev pub logged : List Value → Value
 logged types = value.Map ((codes "log", value.List types) ∷ [])
 
+-- both actors start and schedule five timers, of which one is cancelled
 abbrev pub timing_start : List Line
 timing_start =
     request ann 1 (start (codes "t") None)
@@ -422,6 +451,7 @@ timing_start =
     (in_100 (codes "p") (codes "P") ∷ in_100 (codes "xstate.after.100.u.a") (codes "xstate.after.100.u.a") ∷ [])
     (codes "xstate.init" ∷ [])) ∷ []
 
+-- a timer of an actor to itself, due at 100
 abbrev pub timer : ℕ → ℕ → List ℕ → List ℕ → Timer
 timer order number id type = record { order = order; owner = number; target = number; due = 100; id = Some id; event = event type }
 
@@ -445,6 +475,7 @@ TimersStand = Works timing_office timing_start
       next_timer = 6;
     })
 
+-- those of the actor that isn't done become letters when the moment reaches them
 abbrev pub TimersBecomeLetters : Type 0
 TimersBecomeLetters = Works timing_office
     (timing_start
@@ -474,6 +505,7 @@ TimersBecomeLetters = Works timing_office
 
 -- ---- an observed child tells its parent what it is after each step that leaves it active
 
+-- a machine that observes its child, and the child
 abbrev pub observing_office : OfficeDefinitions
 observing_office = record {
   machines =
@@ -489,9 +521,11 @@ observing_office = record {
   actors = runs (codes "cell") 1 ∷ [];
 }
 
+-- the own part of a parent that saw this
 abbrev pub seen : Value → Own
 seen what = own 0 (0 ∷ 1 ∷ []) (value.Map ((codes "seen", what) ∷ [])) (codes "c" ∷ []) 0
 
+-- the parent starts and makes its child, which begins
 abbrev pub observing_start : List Line
 observing_start =
     request ann 1 (start (codes "obs") None)
@@ -505,6 +539,7 @@ told = value.Map
     ∷ (codes "snapshot", value.Map ((codes "context", empty) ∷ (codes "value", value.Text (codes "x")) ∷ []))
     ∷ (codes "type", value.Text (codes "xstate.snapshot.c")) ∷ [])
 
+-- the parent is told after the first step of its child
 abbrev pub ObservedChildrenTell : Type 0
 ObservedChildrenTell = Works observing_office observing_start
     (reply_with 201 word.Actor 1 ∷ [])
@@ -549,6 +584,7 @@ DoneChildrenTellTheirEnd = Works observing_office
 
 -- ---- all of them
 
+-- each of the rows comes out as it is written
 pub record WorkedExamples : Type 0 where
   pub repeats : RepeatsAreKept
   pub gaps : GapsAreRefused

@@ -1,6 +1,6 @@
 //! What follows from the definitions of an office.
 
-ghost use Rattle.office_types.specs.Laws.{CanonicalLinesAreLines, CompactTextMeansItsValue, DecisionsKeepValidity, EmptyOfficeIsValid, EntriesKeepValidity, EntriesReadBack, LettersWaitedBefore, MeantValuesArePlain, RepeatsGetTheReply, RequestsStandOnce, StepsKeepValidity};
+ghost use Rattle.office_types.specs.Laws.{CanonicalLinesAreLines, CompactTextMeansItsValue, DecisionsKeepValidity, EmptyOfficeIsValid, EntriesKeepValidity, EntriesReadBack, LaterLettersHaveGreaterNumbers, LettersAreTakenInTurn, LettersEnterOneMailbox, LettersWaitedBefore, MeantValuesArePlain, NoLetterIsLost, NumbersAreInOrder, RepeatsGetTheReply, RequestsStandOnce, StepsKeepValidity, StepsTakeHeads};
 ghost use Rattle.office_types.specs.RequestLines.{RequestIsUnique};
 ghost use Rattle.office_types.specs.WorkedRows.{WorkedExamples};
 
@@ -52,6 +52,36 @@ pub fn repeats_get_the_reply()
 pub fn letters_waited_before()
     ensures { LettersWaitedBefore }
 {}
+
+/// The numbers of records and letters are in order in an office in which nothing has happened and in
+/// each valid office, and entries leave them so.
+pub fn numbers_are_in_order()
+    ensures { NumbersAreInOrder }
+{}
+
+/// Where a number waits at two moments, it is the same letter, and waits for the same actor.
+pub fn letters_enter_one_mailbox()
+    ensures { LettersEnterOneMailbox }
+{}
+
+/// A letter that was sent later has a greater number.
+pub fn later_letters_have_greater_numbers()
+    ensures { LaterLettersHaveGreaterNumbers }
+{}
+
+/// Each letter is taken once at most, and those of one actor in the order in which they were sent.
+pub fn letters_are_taken_in_turn()
+    ensures { LettersAreTakenInTurn }
+{}
+
+/// A step takes the earliest letter of its actor's mailbox, which from then on waits nowhere.
+pub fn steps_take_heads()
+    ensures { StepsTakeHeads }
+{}
+
+/// A letter waits until it is taken, or until its actor ends or is removed.
+pub fn no_letter_is_lost()
+    ensures { NoLetterIsLost }
 
 /// A decision on a request keeps an office valid.
 pub fn decisions_keep_validity()

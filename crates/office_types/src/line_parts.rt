@@ -32,7 +32,7 @@ fn first_space(bytes: &[u8]) -> Option<usize>
     bytes.iter().position(|byte| *byte == b' ')
 }
 
-/// The number that the bytes spell in decimal, with no leading zero.
+/// The number of 64 bits that the bytes spell in decimal, with no leading zero. It takes no memory.
 pub fn read_number(bytes: &[u8]) -> Result<u64, LineFault>
     ensures { Reads (SpellsNumber bytes.now) result }
 {
@@ -73,7 +73,8 @@ pub(crate) fn read_caller(alloc: Global, bytes: &[u8]) -> Result<Text, LineFault
     Ok(Text::from_str(alloc, caller)?)
 }
 
-/// Whether the bytes are a letter from a to z and at most 63 of a to z, 0 to 9 and `-`.
+/// Whether the bytes are a letter from a to z and at most 63 of a to z, 0 to 9 and `-`. It looks at each
+/// of them once.
 pub fn is_caller(bytes: &[u8]) -> bool
     ensures { result ≡ is_caller bytes.now }
 {

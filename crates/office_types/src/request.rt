@@ -40,7 +40,9 @@ pub struct Request {
     pub ask: Ask,
 }
 
-/// What a reply's value is, or what stands against a request.
+/// What a reply's value is, or what stands against a request. Where that is a limit the value is the
+/// limit, at `Gap` the number that the caller's next request has to have, and at `Moment` the office's
+/// moment.
 #[derive(Clone, Copy, Debug, PartialEq, Eq)]
 pub enum Word {
     Actor,
@@ -72,5 +74,5 @@ pub struct Reply {
     pub value: u64,
 }
 
-/// The replies of one caller: the first is that to its request 1.
+/// The replies to one caller, in the order of its requests' numbers, from 1 on.
 pub type Replies = Items<Reply>;

@@ -22,7 +22,8 @@ impl Faults {
 
     /// What a call of the system answered, with its error counted and let go.
     pub fn note<T>(&mut self, outcome: io::Result<T>) -> Result<T, Failed>
-        ensures answer { MatchResult outcome (λ value. result ≡ Ok value) (λ _. result ≡ Err (record {})) }
+        ensures answer { MatchResult outcome
+            (λ value. result ≡ Ok value) (λ _. result ≡ Err (record {})) }
         ensures faults { CountsFailure result self.old.count self.new.count }
         ensures later { self.old.count ≤ self.new.count }
     {

@@ -41,12 +41,14 @@ pub trait FileSystem {
 
     /// Fills the slice with the bytes from a place on.
     fn read_at(&self, file: &mut Self::File, at: u64, into: &mut [u8]) -> io::Result<()>
-        ensures answer { calls.reads (record { at = at; bytes = into.new }) result file.old file.new }
+        ensures answer { calls.reads
+            (record { at = at; bytes = into.new }) result file.old file.new }
         ensures failed { OnErr result calls.failed };
 
     /// Writes over what stands from a place on, and past the end.
     fn write_at(&self, file: &mut Self::File, at: u64, bytes: &[u8]) -> io::Result<()>
-        ensures answer { calls.writes (record { at = at; bytes = bytes.now }) result file.old file.new }
+        ensures answer { calls.writes
+            (record { at = at; bytes = bytes.now }) result file.old file.new }
         ensures failed { OnErr result calls.failed };
 
     /// Waits until what was written to the file stands on the disk.

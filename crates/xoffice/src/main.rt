@@ -14,14 +14,12 @@ mod writer;
 use crate::file_source::FileSource;
 use crate::side_file::SideFile;
 use crate::standard_station::StandardStation;
+use office_run::{EXIT_MEMORY, run};
 use std::env;
 use std::io::{self, ErrorKind};
 use std::process::ExitCode;
 use std::rc::RcStr;
 use std::rt::Env;
-
-/// The status at want of memory.
-const NO_MEMORY: u8 = 8;
 
 /// The words behind the program's name. Where one of them is no text, there are none: that is in no form either.
 fn words<R: Env + AllocGlobal>(rt: &R) -> io::Result<Vec<RcStr>> {
@@ -47,7 +45,7 @@ fn status_over<'a>(rt: &'a HostRuntime, words: &'a [RcStr], a: &'a str, b: &'a s
     let a = SideFile::new(rt, a);
     let b = SideFile::new(rt, b);
     let station = StandardStation::new(rt.stdin(), rt.stdout(), a, b);
-    office_run::run(rt.alloc(), words, &mut defs, station).status
+    run(rt.alloc(), words, &mut defs, station).status
 }
 
 /// The status of this process. It fails for want of memory.
@@ -61,5 +59,5 @@ fn status(rt: &HostRuntime) -> io::Result<u8> {
 }
 
 fn main(rt: HostRuntime) -> ExitCode {
-    ExitCode::from(status(&rt).unwrap_or(NO_MEMORY))
+    ExitCode::from(status(&rt).unwrap_or(EXIT_MEMORY))
 }

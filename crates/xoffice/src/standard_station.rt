@@ -125,9 +125,11 @@ impl<R: Read, W: Write, S: FileSystem> Disk for StandardStation<'_, R, W, S> {
     ghost state = { λ s. untold s.clock s.disk.faults.count s.disk.fetched
         (counts s.tally.taken s.tally.faults.count s.write_faults.count) };
 
-    ghost looks = { λ ok old new. MatchBool ok (LooksAtSide S.calls old.disk new.disk) S.calls.failed };
+    ghost looks = { λ ok old new.
+        MatchBool ok (LooksAtSide S.calls old.disk new.disk) S.calls.failed };
 
-    ghost stores = { λ ok old new. MatchBool ok (StoresOnSide S.calls old.disk new.disk) S.calls.failed };
+    ghost stores = { λ ok old new.
+        MatchBool ok (StoresOnSide S.calls old.disk new.disk) S.calls.failed };
 
     ghost reads_an_image = { λ s honest. tt };
 

@@ -48,7 +48,8 @@ impl Tally {
     /// Reads once, and counts what came of it.
     pub fn read<R: Read>(&mut self, reader: &mut R, into: &mut [u8]) -> Got
         requires { 0 < length into.old }
-        ensures answer { ReadsFrom result into.new (R.remaining reader.old) (R.remaining reader.new) }
+        ensures answer { ReadsFrom result into.new
+            (R.remaining reader.old) (R.remaining reader.new) }
         ensures taken { self.new.taken ≡ self.old.taken + bytes_given result }
         ensures faults { CountsReadFailure result self.old.faults.count self.new.faults.count }
         ensures later { self.old.faults.count ≤ self.new.faults.count }

@@ -6,7 +6,7 @@ use Rattle.xs_model.specs.declared.expr.Expr.TheVariants as expr
 use Rattle.xs_model.specs.declared.value.Value.{Value}
 use Rattle.xs_model.specs.declared.value.Value.TheVariants as value
 use Rattle.xs_model.specs.Rising.{put}
-use Rattle.xs_model.specs.Eval.{Scope, Evaluation, outcome, one, value_if_small, collect, member_of, list_of, map_of, Evaluates}
+use Rattle.xs_model.specs.Eval.{Scope, Evaluation, outcome, one, value_if_small, collect, evaluated_member, list_of, map_of, Evaluates}
 
 module _ {X Y : Type 0} (f : X → Result Y EvalFault) (make : List Y → Evaluation) where
   -- what is made of what the parts from a place on give
@@ -53,12 +53,12 @@ list-more scope members parts place d x within gives =
 
 -- what a part gives, with its key
 abbrev pub part_of : Scope → List ℕ × Expr → Result (List ℕ × Value) EvalFault
-part_of scope part = member_of (part.0, outcome scope part.1)
+part_of scope part = evaluated_member (part.0, outcome scope part.1)
 
 abbrev pub map_from : List (List ℕ × Value) → List (List ℕ × Value) → Evaluation
 map_from members rest = Ok (value.Map (fold (λ done member. put done member.0 member.1) members rest))
 
-map-keyed : (scope : Scope) (parts : List (List ℕ × Expr)) → map member_of (map (λ part. (part.0, outcome scope part.1)) parts) ≡ map (part_of scope) parts
+map-keyed : (scope : Scope) (parts : List (List ℕ × Expr)) → map evaluated_member (map (λ part. (part.0, outcome scope part.1)) parts) ≡ map (part_of scope) parts
 map-keyed scope [] = refl
 map-keyed scope (part ∷ parts) = ap (λ rest. part_of scope part ∷ rest) (map-keyed scope parts)
 

@@ -186,8 +186,8 @@ collect (Err fault ∷ rest) = Err fault
 collect (Ok x ∷ rest) = one (collect rest) (λ xs. Ok (x ∷ xs))
 
 -- a key with what its part gives
-abbrev pub member_of : List ℕ × Evaluation → Result (List ℕ × Value) EvalFault
-member_of part = one part.1 (λ x. Ok (part.0, x))
+abbrev pub evaluated_member : List ℕ × Evaluation → Result (List ℕ × Value) EvalFault
+evaluated_member part = one part.1 (λ x. Ok (part.0, x))
 
 -- the members put one after another
 abbrev pub members_by_key : List (List ℕ × Value) → List (List ℕ × Value)
@@ -200,7 +200,7 @@ list_of parts = one (collect parts) (λ members. Ok (value.List members))
 -- the map of what the parts give
 abbrev pub map_of : List (List ℕ × Evaluation) → Evaluation
 map_of parts =
-    one (collect (map member_of parts)) (λ members. Ok (value.Map (members_by_key members)))
+    one (collect (map evaluated_member parts)) (λ members. Ok (value.Map (members_by_key members)))
 
 -- ---- the table
 
