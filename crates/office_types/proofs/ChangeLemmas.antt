@@ -75,6 +75,7 @@ abbrev Holds : (OfficeState → Type 0) → Fitted → Type 0
 Holds K (Ok state) = K state
 Holds K (Err name) = ⊤
 
+-- what each kind of change keeps is kept beside the taking of a letter
 pub beside_taking : (K : OfficeState → Type 0) → IsKept K → IsKeptBesideTaking K
 beside_taking K kept = record {
   letter = kept.letter;
@@ -91,6 +92,7 @@ beside_taking K kept = record {
   callers = kept.callers;
 }
 
+-- and what is kept beside it and by it is kept by each
 pub with_taking : (K : OfficeState → Type 0) → IsKeptBesideTaking K → ((state : OfficeState) (number : ℕ) → K state → K (without_head state number)) → IsKept K
 with_taking K kept taking = record {
   letter = kept.letter;
