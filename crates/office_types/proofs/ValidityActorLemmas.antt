@@ -19,17 +19,17 @@ use Rattle.office_types.specs.Records.{active_actors, is_active, with_actor}
 use Rattle.office_types.specs.SystemNames.{holder_of, with_holder, without_holder}
 use Rattle.office_types.specs.Timers.{without_owner}
 use Rattle.office_types.specs.ValidOffice.{AreOfOneId, IsGiven, IsNextNumber}
-use Rattle.office_types.proofs.ValidityListLemmas.{Pairs, Rises, at, each_at, each_filter, each_look, each_map, each_mono, length_filter_le, look_each, look_filter, look_number, look_push, pairs_filter, pairs_push, passing_filter_le, passing_map_le, passing_push_le, sum_filter_le, sum_map_le, sum_push}
-use Rattle.office_types.proofs.ValidityTreeLemmas.{among_itself, below, below_closed, below_found, given_in, number_of, parents_smaller, record_in, tree_map, tree_spawn, tree_start, within}
+use Rattle.office_types.proofs.ValidityListLemmas.{EachPair, Rises, change_at, each_at, each_filter, each_look, each_map, each_mono, length_filter_le, look_each, look_filter, look_number, look_push, pairs_filter, pairs_push, passing_filter_le, passing_map_le, passing_push_le, sum_filter_le, sum_map_le, sum_push}
+use Rattle.office_types.proofs.ValidityTreeLemmas.{among_itself, all_below, below_closed, below_found, given_in, number_of, parents_smaller, record_in, tree_map, tree_spawn, tree_start, within}
 use Rattle.office_types.proofs.ValidityStopLemmas.{tree_stop}
-use Rattle.office_types.proofs.ValidityPartLemmas.{FitsTimer, Stands, running, runs}
+use Rattle.office_types.proofs.ValidityPartLemmas.{FitsTimer, RecordRules, running, runs_in}
 use Rattle.office_types.proofs.ValidityEndLemmas.{end_cases, fold_without, mailbox_after, number_after, parts_end, parts_gone, parts_push, stays_after}
-use Rattle.office_types.proofs.ValidityLemmas.{Counts, Sound}
+use Rattle.office_types.proofs.ValidityLemmas.{CountRules, SoundOffice}
 use Rattle.office_types.proofs.ValidityChangeLemmas.{Except, active_at_le, either_at, kinds_push, parts_quiet}
 
 -- ---- new actors
 
-new_counts : (callers : List Caller) (state : OfficeState) (fresh : ActorRecord) → fresh.mailbox ≡ [] → has_actor_room state ≡ true → Counts callers state → Counts callers (with_record state fresh)
+new_counts : (callers : List Caller) (state : OfficeState) (fresh : ActorRecord) → fresh.mailbox ≡ [] → has_actor_room state ≡ true → CountRules callers state → CountRules callers (with_record state fresh)
 new_counts callers state fresh empty room counts =
     let rooms = and_parts (nat_lt (active_actors state) MAX_ACTIVE_ACTORS) (nat_lt state.next_actor MAX_NEXT_NUMBER) room in
     record {
@@ -60,8 +60,8 @@ name_free state (Some other) free name is = by_holder (holder_of other state.nam
   by_holder (Some n) holder free = absurd (true≢false free)
 
 -- one without a parent
-pub start_sound : (K : ActorRecord → Type 0) (callers : List Caller) (state : OfficeState) (fresh : ActorRecord) → Sound K callers state → has_actor_room state ≡ true → is_name_held state fresh.system ≡ false
-    → fresh.number ≡ state.next_actor → fresh.kids ≡ [] → fresh.parent ≡ None → fresh.mailbox ≡ [] → Stands fresh → Sound (Except K state.next_actor (λ a. a ≡ fresh)) callers (with_record state fresh)
+pub start_sound : (K : ActorRecord → Type 0) (callers : List Caller) (state : OfficeState) (fresh : ActorRecord) → SoundOffice K callers state → has_actor_room state ≡ true → is_name_held state fresh.system ≡ false
+    → fresh.number ≡ state.next_actor → fresh.kids ≡ [] → fresh.parent ≡ None → fresh.mailbox ≡ [] → RecordRules fresh → SoundOffice (Except K state.next_actor (λ a. a ≡ fresh)) callers (with_record state fresh)
 start_sound K callers state fresh sound room free fresh_number fresh_kids no_parent empty stands = record {
   counts = new_counts callers state fresh empty room sound.counts;
   tree = tree_start state.next_actor state.actors sound.tree sound.counts.actor.numbered fresh fresh_number fresh_kids no_parent;
@@ -70,18 +70,18 @@ start_sound K callers state fresh sound room free fresh_number fresh_kids no_par
 }
 
 -- a child
-pub spawn_sound : (K K' : ActorRecord → Type 0) (callers : List Caller) (state : OfficeState) (n : ℕ) (id : List ℕ) (fresh : ActorRecord) → Sound K callers state → has_actor_room state ≡ true → is_name_held state fresh.system ≡ false
-    → within state.actors 15 n ≡ true → runs state.actors n ≡ true
-    → fresh.number ≡ state.next_actor → fresh.kids ≡ [] → fresh.parent ≡ Some n → fresh.mailbox ≡ [] → Stands fresh
+pub spawn_sound : (K K' : ActorRecord → Type 0) (callers : List Caller) (state : OfficeState) (n : ℕ) (id : List ℕ) (fresh : ActorRecord) → SoundOffice K callers state → has_actor_room state ≡ true → is_name_held state fresh.system ≡ false
+    → within state.actors 15 n ≡ true → runs_in state.actors n ≡ true
+    → fresh.number ≡ state.next_actor → fresh.kids ≡ [] → fresh.parent ≡ Some n → fresh.mailbox ≡ [] → RecordRules fresh
     → ((a : ActorRecord) → a.number ≢ n → K a → K' a) → ((a : ActorRecord) → record_in state.actors n ≡ Some a → K a → K' (with_kid id state.next_actor a))
-    → Sound (Except K' state.next_actor (λ a. a ≡ fresh)) callers (with_actor (with_record state fresh) n (with_kid id state.next_actor))
+    → SoundOffice (Except K' state.next_actor (λ a. a ≡ fresh)) callers (with_actor (with_record state fresh) n (with_kid id state.next_actor))
 spawn_sound K K' callers state n id fresh sound room free level runner fresh_number fresh_kids fresh_parent empty stands others target =
     let next : ℕ = state.next_actor in
     let before = new_counts callers state fresh empty room sound.counts in
     let adopt : ActorRecord → ActorRecord = with_kid id next in
     let parent = running state.actors n runner in
     let given : n < next = (given_in next state.actors sound.tree n parent.0 parent.1).1 in
-    let same_waiting = sum_map_le (λ (a : ActorRecord). length a.mailbox) (at number_of n adopt) (state.actors ++ fresh ∷ [])
+    let same_waiting = sum_map_le (λ (a : ActorRecord). length a.mailbox) (change_at number_of n adopt) (state.actors ++ fresh ∷ [])
     (λ a. either_at (λ (z : ActorRecord). length z.mailbox ≤ length a.mailbox) n adopt a (omega arith) (omega arith)) in
     let pushed = parts_push next state.next_letter state.next_timer state.actors state.timers state.names fresh empty stands (name_free state fresh.system free) sound.parts in
     let names' : List (List ℕ × ℕ) = option_map_or (λ (name : List ℕ). with_holder state.names name fresh.number) fresh.system state.names in
@@ -120,16 +120,16 @@ timers_fewer : (gone : List ℕ) (timers : List Timer) → length (fold (λ (oth
 timers_fewer gone timers =
     omega (arith, ap length (fold_without (λ (timer : Timer). timer.owner) gone timers), length_filter_le (λ (timer : Timer). not (is_among gone timer.owner)) timers)
 
-pub stop_sound : (K K' : ActorRecord → Type 0) (callers : List Caller) (state : OfficeState) (n : ℕ) (id : List ℕ) (x : ℕ) (parent : ActorRecord) → Sound K callers state
-    → record_in state.actors n ≡ Some parent → Pairs (λ (a b : List ℕ × ℕ). a.0 ≢ b.0) parent.kids → lookup (bytes_eq id) parent.kids ≡ Some x
+pub stop_sound : (K K' : ActorRecord → Type 0) (callers : List Caller) (state : OfficeState) (n : ℕ) (id : List ℕ) (x : ℕ) (parent : ActorRecord) → SoundOffice K callers state
+    → record_in state.actors n ≡ Some parent → EachPair (λ (a b : List ℕ × ℕ). a.0 ≢ b.0) parent.kids → lookup (bytes_eq id) parent.kids ≡ Some x
     → ((a : ActorRecord) → a.number ≢ n → K a → K' a) → ((a : ActorRecord) → record_in state.actors n ≡ Some a → K a → K' (without_kid id a))
-    → Sound K' callers (with_actor (removed x state) n (without_kid id))
+    → SoundOffice K' callers (with_actor (removed x state) n (without_kid id))
 unfolding removed subtree_of
 stop_sound K K' callers state n id x parent sound seen differ found others target =
-    let gone : List ℕ = below state.actors (x ∷ []) in
+    let gone : List ℕ = all_below state.actors (x ∷ []) in
     let left : List ActorRecord = filter (λ (a : ActorRecord). not (is_among gone a.number)) state.actors in
     let fewer_letters = sum_filter_le (λ (a : ActorRecord). length a.mailbox) (λ (a : ActorRecord). not (is_among gone a.number)) state.actors in
-    let same_letters = sum_map_le (λ (a : ActorRecord). length a.mailbox) (at number_of n (without_kid id)) left
+    let same_letters = sum_map_le (λ (a : ActorRecord). length a.mailbox) (change_at number_of n (without_kid id)) left
     (λ a. either_at (λ (z : ActorRecord). length z.mailbox ≤ length a.mailbox) n (without_kid id) a (omega arith) (omega arith)) in
     record {
       counts = record {
@@ -154,23 +154,23 @@ stop_sound K K' callers state n id x parent sound seen differ found others targe
       kinds = each_at number_of K K' n (without_kid id) left (pairs_filter (λ (y z : ActorRecord). y.number < z.number) (λ (a : ActorRecord). not (is_among gone a.number)) state.actors sound.tree.rise)
           (each_filter K (λ (a : ActorRecord). not (is_among gone a.number)) state.actors sound.kinds) others (λ a there. target a (left_seen a there));
     } where
-      left_seen : (a : ActorRecord) → record_in (filter (λ (z : ActorRecord). not (is_among (below state.actors (x ∷ [])) z.number)) state.actors) n ≡ Some a → record_in state.actors n ≡ Some a
-      left_seen a there = by_test (is_among (below state.actors (x ∷ [])) n) (sym (look_filter number_of (λ m. not (is_among (below state.actors (x ∷ [])) m)) state.actors n) ∙ there) where
+      left_seen : (a : ActorRecord) → record_in (filter (λ (z : ActorRecord). not (is_among (all_below state.actors (x ∷ [])) z.number)) state.actors) n ≡ Some a → record_in state.actors n ≡ Some a
+      left_seen a there = by_test (is_among (all_below state.actors (x ∷ [])) n) (sym (look_filter number_of (λ m. not (is_among (all_below state.actors (x ∷ [])) m)) state.actors n) ∙ there) where
         by_test : (b : Bool) → (if not b then record_in state.actors n else None) ≡ Some a → record_in state.actors n ≡ Some a
         by_test true is = absurd (cc)
         by_test false is = is
 
 -- ---- an actor ends
 
-pub end_sound : (K K' : ActorRecord → Type 0) (callers : List Caller) (state : OfficeState) (n : ℕ) (end : ActorRecord → ActorRecord) → Sound K callers state
+pub end_sound : (K K' : ActorRecord → Type 0) (callers : List Caller) (state : OfficeState) (n : ℕ) (end : ActorRecord → ActorRecord) → SoundOffice K callers state
     → ((a : ActorRecord) → (end a).number ≡ a.number) → ((a : ActorRecord) → (end a).parent ≡ a.parent) → ((a : ActorRecord) → (end a).kids ≡ a.kids) → ((a : ActorRecord) → is_active (end a) ≡ false)
     → ((a : ActorRecord) → (end a).mailbox ≡ []) → ((a : ActorRecord) → (end a).system ≡ None)
-    → ((a : ActorRecord) → record_in state.actors n ≡ Some a → Stands a → Stands (end a)) → ((a : ActorRecord) → record_in state.actors n ≡ Some a → K a → K' (end a))
+    → ((a : ActorRecord) → record_in state.actors n ≡ Some a → RecordRules a → RecordRules (end a)) → ((a : ActorRecord) → record_in state.actors n ≡ Some a → K a → K' (end a))
     → ((a : ActorRecord) → a.number ≢ n → is_active a ≡ true → K a → K' (ended_record status.Stopped a)) → ((a : ActorRecord) → a.number ≢ n → K a → K' a)
-    → Sound K' callers (after_end end n state)
+    → SoundOffice K' callers (after_end end n state)
 unfolding after_end subtree_of
 end_sound K K' callers state n end sound same_number same_parent same_kids inactive empty unnamed stands_end target stops others =
-    let gone : List ℕ = below state.actors (n ∷ []) in
+    let gone : List ℕ = all_below state.actors (n ∷ []) in
     let itself : is_among gone n ≡ true = below_found state.actors (n ∷ []) n (among_itself n) in
     let f : ActorRecord → ActorRecord = record_after_end gone n end in
     record {
@@ -217,17 +217,17 @@ end_sound K K' callers state n end sound same_number same_parent same_kids inact
       active_beside gone itself a = end_cases (λ (z : ActorRecord). is_active z ≡ true → is_among gone a.number ≡ false) gone n end a
           (λ is active. absurd (true≢false (sym active ∙ inactive a))) (λ other below active is. absurd (true≢false (sym is))) (λ other below ended is. absurd (true≢false (sym is ∙ ended))) (λ other beside is. beside)
 
-      up_beside : (m : ℕ) (a : ActorRecord) (p : ℕ) → record_in state.actors m ≡ Some a → a.parent ≡ Some p → is_among (below state.actors (n ∷ [])) m ≡ false → is_among (below state.actors (n ∷ [])) p ≡ false
-      up_beside m a p seen parent kept = elim (cases_Bool (is_among (below state.actors (n ∷ [])) p)) [
+      up_beside : (m : ℕ) (a : ActorRecord) (p : ℕ) → record_in state.actors m ≡ Some a → a.parent ≡ Some p → is_among (all_below state.actors (n ∷ [])) m ≡ false → is_among (all_below state.actors (n ∷ [])) p ≡ false
+      up_beside m a p seen parent kept = elim (cases_Bool (is_among (all_below state.actors (n ∷ [])) p)) [
         | inl is ↦ absurd (true≢false (sym (below_closed state.actors (n ∷ []) m p a sound.tree.rise (parents_smaller state.next_actor state.actors sound.tree) seen parent is) ∙ kept))
         | inr is ↦ is
       ]
 
 -- ---- timers and the moment
 
-pub timers_sound : (K : ActorRecord → Type 0) (callers : List Caller) (state : OfficeState) (timers' : List Timer) (next : ℕ) → Sound K callers state → IsNextNumber next → length timers' ≤ MAX_TIMERS
-    → AllByRecursion (FitsTimer state.next_actor next state.actors) timers' → Rises (λ (timer : Timer). timer.order) timers' → Pairs (λ (a b : Timer). AreOfOneId a b → ⊥) timers'
-    → Sound K callers (record state { timers = timers'; next_timer = next })
+pub timers_sound : (K : ActorRecord → Type 0) (callers : List Caller) (state : OfficeState) (timers' : List Timer) (next : ℕ) → SoundOffice K callers state → IsNextNumber next → length timers' ≤ MAX_TIMERS
+    → AllByRecursion (FitsTimer state.next_actor next state.actors) timers' → Rises (λ (timer : Timer). timer.order) timers' → EachPair (λ (a b : Timer). AreOfOneId a b → ⊥) timers'
+    → SoundOffice K callers (record state { timers = timers'; next_timer = next })
 timers_sound K callers state timers' next sound number few fit rising ids = record {
   counts = record {
     actor = sound.counts.actor;
@@ -255,7 +255,7 @@ timers_sound K callers state timers' next sound number few fit rising ids = reco
 }
 
 -- some of the timers are left
-pub fewer_timers_sound : (K : ActorRecord → Type 0) (callers : List Caller) (state : OfficeState) (keep : Timer → Bool) → Sound K callers state → Sound K callers (record state { timers = filter keep state.timers })
+pub fewer_timers_sound : (K : ActorRecord → Type 0) (callers : List Caller) (state : OfficeState) (keep : Timer → Bool) → SoundOffice K callers state → SoundOffice K callers (record state { timers = filter keep state.timers })
 fewer_timers_sound K callers state keep sound =
     timers_sound K callers state (filter keep state.timers) state.next_timer sound sound.counts.timer
     (let few : length state.timers ≤ MAX_TIMERS = sound.counts.standing in omega (arith, length_filter_le keep state.timers))
@@ -263,7 +263,7 @@ fewer_timers_sound K callers state keep sound =
     (pairs_filter (λ (a b : Timer). a.order < b.order) keep state.timers sound.parts.timers_rise)
     (pairs_filter (λ (a b : Timer). AreOfOneId a b → ⊥) keep state.timers sound.parts.timer_ids)
 
-pub moment_sound : (K : ActorRecord → Type 0) (callers : List Caller) (state : OfficeState) (moment' : ℕ) → moment' ≤ MAX_MOMENT → Sound K callers state → Sound K callers (record state { moment = moment' })
+pub moment_sound : (K : ActorRecord → Type 0) (callers : List Caller) (state : OfficeState) (moment' : ℕ) → moment' ≤ MAX_MOMENT → SoundOffice K callers state → SoundOffice K callers (record state { moment = moment' })
 moment_sound K callers state moment' within sound = record {
   counts = record {
     actor = sound.counts.actor;

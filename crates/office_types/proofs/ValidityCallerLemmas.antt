@@ -21,7 +21,7 @@ use Rattle.office_types.specs.Decisions.{Row, actor_row, actors_row, caller_of, 
 use Rattle.office_types.specs.Definitions.{OfficeDefinitions}
 use Rattle.office_types.specs.ValidOffice.{IsCaller, IsDecidedReply, decided_words}
 use Rattle.office_types.proofs.ValidityLemmas.{CallerRules}
-use Rattle.office_types.proofs.ValidityListLemmas.{Pairs, all_from_pairs, each_push, pairs_from}
+use Rattle.office_types.proofs.ValidityListLemmas.{EachPair, all_from_pairs, each_push, pairs_from}
 use Rattle.office_types.proofs.ValidityStopLemmas.{bytes_same}
 
 -- ---- rows
@@ -137,11 +137,11 @@ module _ (name : List ℕ) (reply : Reply) where
     by_name rest true = (all.0, all.1)
     by_name rest false = (all.0, rest)
 
-  once_reply : (callers : List Caller) → Pairs (λ (a b : Caller). a.name ≢ b.name) callers → Pairs (λ (a b : Caller). a.name ≢ b.name) (with_reply name reply callers)
+  once_reply : (callers : List Caller) → EachPair (λ (a b : Caller). a.name ≢ b.name) callers → EachPair (λ (a b : Caller). a.name ≢ b.name) (with_reply name reply callers)
   once_reply [] once = (tt, tt)
   once_reply (caller ∷ callers) once = by_name (once_reply callers once.1) (bytes_eq caller.name name) refl where
-    by_name : Pairs (λ (a b : Caller). a.name ≢ b.name) (with_reply name reply callers) → (b : Bool) → bytes_eq caller.name name ≡ b
-        → Pairs (λ (a b : Caller). a.name ≢ b.name) (if b then record { name = caller.name; replies = caller.replies ++ reply ∷ [] } ∷ callers else caller ∷ with_reply name reply callers)
+    by_name : EachPair (λ (a b : Caller). a.name ≢ b.name) (with_reply name reply callers) → (b : Bool) → bytes_eq caller.name name ≡ b
+        → EachPair (λ (a b : Caller). a.name ≢ b.name) (if b then record { name = caller.name; replies = caller.replies ++ reply ∷ [] } ∷ callers else caller ∷ with_reply name reply callers)
     by_name rest true is = (once.0, once.1)
     by_name rest false is = (names_reply (λ other. caller.name ≢ other) callers (λ same. true≢false (sym (bytes_same caller.name name same) ∙ is)) once.0, rest)
 

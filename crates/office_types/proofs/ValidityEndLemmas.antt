@@ -14,9 +14,9 @@ use Rattle.office_types.specs.Records.{is_active, is_active_status}
 use Rattle.office_types.specs.SystemNames.{holder_of, with_holder, without_holder}
 use Rattle.office_types.specs.Timers.{beside, without_owner}
 use Rattle.office_types.specs.ValidOffice.{AreOfOneId, name_of, names_of}
-use Rattle.office_types.proofs.ValidityListLemmas.{Pairs, Rises, each_filter, each_look, each_map, each_mono, each_passing, each_push, filter_all, filter_filter, filter_joined, filter_same, look_each, look_filter, look_number, look_push, pairs_filter, pairs_push, sum_filter_le, sum_map_le, sum_push}
+use Rattle.office_types.proofs.ValidityListLemmas.{EachPair, Rises, each_filter, each_look, each_map, each_mono, each_passing, each_push, filter_all, filter_filter, filter_joined, filter_same, look_each, look_filter, look_number, look_push, pairs_filter, pairs_push, sum_filter_le, sum_map_le, sum_push}
 use Rattle.office_types.proofs.ValidityTreeLemmas.{number_of, record_in}
-use Rattle.office_types.proofs.ValidityPartLemmas.{FitsLetter, FitsTimer, Mail, Parts, Stands, letter_more, numbered, running, runs, runs_from, runs_map, timer_more}
+use Rattle.office_types.proofs.ValidityPartLemmas.{FitsLetter, FitsTimer, Mail, PartRules, RecordRules, letter_more, letters_numbered, running, runs_in, runs_from, runs_map, timer_more}
 use Rattle.office_types.proofs.ValidityStopLemmas.{bytes_same}
 
 -- ---- a record more
@@ -25,7 +25,7 @@ names_push : (actors : List ActorRecord) (fresh : ActorRecord) → names_of (act
 names_push [] fresh = append-nil (name_of fresh)
 names_push (actor ∷ actors) fresh = ap (λ (names : List (List ℕ × ℕ)). name_of actor ++ names) (names_push actors fresh) ∙ sym (append_assoc (name_of actor) (names_of actors) (name_of fresh))
 
-runs_push : (actors : List ActorRecord) (fresh : ActorRecord) (n : ℕ) → runs actors n ≡ true → runs (actors ++ fresh ∷ []) n ≡ true
+runs_push : (actors : List ActorRecord) (fresh : ActorRecord) (n : ℕ) → runs_in actors n ≡ true → runs_in (actors ++ fresh ∷ []) n ≡ true
 runs_push actors fresh n is =
     let a = running actors n is in
     runs_from (actors ++ fresh ∷ []) n a.0 (look_push number_of actors fresh n ∙ ap (λ (o : Option ActorRecord). option_or o (record_in (fresh ∷ []) n)) a.1) a.2 a.3
@@ -39,16 +39,16 @@ unheld name (pair ∷ names) none = by_test (unheld name names) (bytes_eq name p
   by_test rest true is none = absurd (cc)
   by_test rest false is none = (λ same. true≢false (sym (bytes_same name pair.0 (sym same)) ∙ is), rest none)
 
-pub parts_push : (na la ta : ℕ) (actors : List ActorRecord) (timers : List Timer) (names : List (List ℕ × ℕ)) (fresh : ActorRecord) → fresh.mailbox ≡ [] → Stands fresh
+pub parts_push : (na la ta : ℕ) (actors : List ActorRecord) (timers : List Timer) (names : List (List ℕ × ℕ)) (fresh : ActorRecord) → fresh.mailbox ≡ [] → RecordRules fresh
     → ((name : List ℕ) → fresh.system ≡ Some name → holder_of name names ≡ None)
-    → Parts na la ta actors timers names
-    → Parts (na + 1) la ta (actors ++ fresh ∷ []) timers (option_map_or (λ (name : List ℕ). with_holder names name fresh.number) fresh.system names)
+    → PartRules na la ta actors timers names
+    → PartRules (na + 1) la ta (actors ++ fresh ∷ []) timers (option_map_or (λ (name : List ℕ). with_holder names name fresh.number) fresh.system names)
 parts_push na la ta actors timers names fresh empty stands free parts = record {
-  stands = each_push Stands actors fresh parts.stands stands;
+  stands = each_push RecordRules actors fresh parts.stands stands;
   mail = each_push (Mail (na + 1) la) actors fresh
       (each_mono (Mail na la) (Mail (na + 1) la) actors (λ a mail. each_mono (FitsLetter na la) (FitsLetter (na + 1) la) a.mailbox (letter_more na (na + 1) la la (omega arith) (omega arith)) mail) parts.mail)
       (subst (AllByRecursion (FitsLetter (na + 1) la)) (sym empty) tt);
-  once = λ m. omega (arith, sum_push (numbered m) actors fresh, ap (λ (letters : List Letter). sum_by (λ (l : Letter). cond (nat_eq l.number m) 1 0) letters) empty, parts.once m);
+  once = λ m. omega (arith, sum_push (letters_numbered m) actors fresh, ap (λ (letters : List Letter). sum_by (λ (l : Letter). cond (nat_eq l.number m) 1 0) letters) empty, parts.once m);
   timers_fit = each_mono (FitsTimer na ta actors) (FitsTimer (na + 1) ta (actors ++ fresh ∷ [])) timers
       (λ timer fits. timer_more na (na + 1) ta ta actors (actors ++ fresh ∷ []) timer (omega arith) (omega arith) (runs_push actors fresh timer.owner) fits) parts.timers_fit;
   timers_rise = parts.timers_rise;
@@ -63,7 +63,7 @@ parts_push na la ta actors timers names fresh empty stands free parts = record {
       ap (λ (others : List (List ℕ × ℕ)). others ++ (name, fresh.number) ∷ []) parts.names_same
       ∙ ap (λ (o : Option (List ℕ)). names_of actors ++ map (λ (name : List ℕ). (name, fresh.number)) (option_to_list o)) (sym is)
 
-  once : (o : Option (List ℕ)) → fresh.system ≡ o → Pairs (λ (a b : List ℕ × ℕ). a.0 ≢ b.0) (option_map_or (λ (name : List ℕ). with_holder names name fresh.number) o names)
+  once : (o : Option (List ℕ)) → fresh.system ≡ o → EachPair (λ (a b : List ℕ × ℕ). a.0 ≢ b.0) (option_map_or (λ (name : List ℕ). with_holder names name fresh.number) o names)
   once None is = parts.names_once
   once (Some name) is = pairs_push (λ (a b : List ℕ × ℕ). a.0 ≢ b.0) names (name, fresh.number) parts.names_once (unheld name names (free name is))
 
@@ -99,7 +99,7 @@ name_goes gone a None left = refl
 name_goes gone a (Some name) left = ap (λ (b : Bool). cond (not b) ((name, a.number) ∷ []) []) left
 
 -- timers of those that stay
-timers_stay : (na ta : ℕ) (gone : List ℕ) (before after : List ActorRecord) (timers : List Timer) → ((n : ℕ) → is_among gone n ≡ false → runs before n ≡ true → runs after n ≡ true)
+timers_stay : (na ta : ℕ) (gone : List ℕ) (before after : List ActorRecord) (timers : List Timer) → ((n : ℕ) → is_among gone n ≡ false → runs_in before n ≡ true → runs_in after n ≡ true)
     → AllByRecursion (FitsTimer na ta before) timers → AllByRecursion (FitsTimer na ta after) (filter (λ (timer : Timer). not (is_among gone timer.owner)) timers)
 timers_stay na ta gone before after timers on fit =
     each_passing (FitsTimer na ta before) (FitsTimer na ta after) (λ (timer : Timer). not (is_among gone timer.owner)) timers
@@ -120,27 +120,27 @@ module _ (gone : List ℕ) where
             ap (λ (names : List (List ℕ × ℕ)). name_of actor ++ names) rest
             ∙ ap (λ (names : List (List ℕ × ℕ)). names ++ filter (λ (pair : List ℕ × ℕ). not (is_among gone pair.1)) (names_of actors)) (sym (name_stays gone actor actor.system is))
 
-  runs_filter : (actors : List ActorRecord) (n : ℕ) → is_among gone n ≡ false → runs actors n ≡ true → runs (filter (λ (a : ActorRecord). not (is_among gone a.number)) actors) n ≡ true
+  runs_filter : (actors : List ActorRecord) (n : ℕ) → is_among gone n ≡ false → runs_in actors n ≡ true → runs_in (filter (λ (a : ActorRecord). not (is_among gone a.number)) actors) n ≡ true
   runs_filter actors n kept is =
       let a = running actors n is in
       runs_from (filter (λ (z : ActorRecord). not (is_among gone z.number)) actors) n a.0
       (look_filter number_of (λ m. not (is_among gone m)) actors n ∙ ap (λ (b : Bool). if not b then record_in actors n else None) kept ∙ a.1) a.2 a.3
 
-  pub parts_gone : (na la ta : ℕ) (actors : List ActorRecord) (timers : List Timer) (names : List (List ℕ × ℕ)) → Parts na la ta actors timers names
-      → Parts na la ta (filter (λ (a : ActorRecord). not (is_among gone a.number)) actors) (fold (λ (others : List Timer) (n : ℕ). without_owner n others) timers gone) (fold without_holder names gone)
+  pub parts_gone : (na la ta : ℕ) (actors : List ActorRecord) (timers : List Timer) (names : List (List ℕ × ℕ)) → PartRules na la ta actors timers names
+      → PartRules na la ta (filter (λ (a : ActorRecord). not (is_among gone a.number)) actors) (fold (λ (others : List Timer) (n : ℕ). without_owner n others) timers gone) (fold without_holder names gone)
   parts_gone na la ta actors timers names parts =
       let left_timers = fold_without (λ (timer : Timer). timer.owner) gone timers in
       let left_names = fold_without (λ (pair : List ℕ × ℕ). pair.1) gone names in
       record {
-        stands = each_filter Stands (λ (a : ActorRecord). not (is_among gone a.number)) actors parts.stands;
+        stands = each_filter RecordRules (λ (a : ActorRecord). not (is_among gone a.number)) actors parts.stands;
         mail = each_filter (Mail na la) (λ (a : ActorRecord). not (is_among gone a.number)) actors parts.mail;
-        once = λ m. omega (arith, sum_filter_le (numbered m) (λ (a : ActorRecord). not (is_among gone a.number)) actors, parts.once m);
+        once = λ m. omega (arith, sum_filter_le (letters_numbered m) (λ (a : ActorRecord). not (is_among gone a.number)) actors, parts.once m);
         timers_fit = subst (AllByRecursion (FitsTimer na ta (filter (λ (a : ActorRecord). not (is_among gone a.number)) actors))) (sym left_timers)
             (timers_stay na ta gone actors (filter (λ (a : ActorRecord). not (is_among gone a.number)) actors) timers (runs_filter actors) parts.timers_fit);
         timers_rise = subst (Rises (λ (timer : Timer). timer.order)) (sym left_timers) (pairs_filter (λ (a b : Timer). a.order < b.order) (λ (timer : Timer). not (is_among gone timer.owner)) timers parts.timers_rise);
-        timer_ids = subst (Pairs (λ (a b : Timer). AreOfOneId a b → ⊥)) (sym left_timers) (pairs_filter (λ (a b : Timer). AreOfOneId a b → ⊥) (λ (timer : Timer). not (is_among gone timer.owner)) timers parts.timer_ids);
+        timer_ids = subst (EachPair (λ (a b : Timer). AreOfOneId a b → ⊥)) (sym left_timers) (pairs_filter (λ (a b : Timer). AreOfOneId a b → ⊥) (λ (timer : Timer). not (is_among gone timer.owner)) timers parts.timer_ids);
         names_same = left_names ∙ ap (filter (λ (pair : List ℕ × ℕ). not (is_among gone pair.1))) parts.names_same ∙ sym (names_filter actors);
-        names_once = subst (Pairs (λ (a b : List ℕ × ℕ). a.0 ≢ b.0)) (sym left_names) (pairs_filter (λ (a b : List ℕ × ℕ). a.0 ≢ b.0) (λ (pair : List ℕ × ℕ). not (is_among gone pair.1)) names parts.names_once);
+        names_once = subst (EachPair (λ (a b : List ℕ × ℕ). a.0 ≢ b.0)) (sym left_names) (pairs_filter (λ (a b : List ℕ × ℕ). a.0 ≢ b.0) (λ (pair : List ℕ × ℕ). not (is_among gone pair.1)) names parts.names_once);
       }
 
 -- ---- records ended
@@ -163,7 +163,7 @@ end_cases Q gone n end a ends stops ended other = by_number (nat_eq a.number n) 
   by_number false is = by_place (is_among gone a.number) refl (eqb-false a.number n is)
 
 -- an actor below one that ended is as one that is no longer active has to be
-stands_stopped : (a : ActorRecord) → is_active a ≡ true → Stands a → Stands (ended_record status.Stopped a)
+stands_stopped : (a : ActorRecord) → is_active a ≡ true → RecordRules a → RecordRules (ended_record status.Stopped a)
 stands_stopped a active stands = record {
   ended = λ is. record { letters = refl; name = refl };
   system = tt;
@@ -186,14 +186,14 @@ module _ (gone : List ℕ) (n : ℕ) (end : ActorRecord → ActorRecord) (same_n
   stays_after a kept = end_cases (λ (z : ActorRecord). z ≡ a) gone n end a (λ is. absurd (true≢false (sym ended_below ∙ ap (is_among gone) (sym is) ∙ kept)))
       (λ other below active. absurd (true≢false (sym below ∙ kept))) (λ other below inactive. refl) (λ other beside. refl)
 
-  name_after : (a : ActorRecord) → Stands a → name_of (after a) ≡ filter (λ (pair : List ℕ × ℕ). not (is_among gone pair.1)) (name_of a)
+  name_after : (a : ActorRecord) → RecordRules a → name_of (after a) ≡ filter (λ (pair : List ℕ × ℕ). not (is_among gone pair.1)) (name_of a)
   name_after a stands = end_cases (λ (z : ActorRecord). name_of z ≡ filter (λ (pair : List ℕ × ℕ). not (is_among gone pair.1)) (name_of a)) gone n end a
       (λ is. ap (λ (o : Option (List ℕ)). map (λ (name : List ℕ). (name, (end a).number)) (option_to_list o)) (unnamed a) ∙ sym (name_goes gone a a.system (ap (is_among gone) is ∙ ended_below)))
       (λ other below active. sym (name_goes gone a a.system below))
       (λ other below inactive. ap (λ (o : Option (List ℕ)). map (λ (name : List ℕ). (name, a.number)) (option_to_list o)) ((stands.ended inactive).name) ∙ sym (name_goes gone a a.system below))
       (λ other beside. sym (name_stays gone a a.system beside))
 
-  names_after : (actors : List ActorRecord) → AllByRecursion Stands actors → names_of (map after actors) ≡ filter (λ (pair : List ℕ × ℕ). not (is_among gone pair.1)) (names_of actors)
+  names_after : (actors : List ActorRecord) → AllByRecursion RecordRules actors → names_of (map after actors) ≡ filter (λ (pair : List ℕ × ℕ). not (is_among gone pair.1)) (names_of actors)
   names_after [] stand = refl
   names_after (a ∷ actors) stand =
       ap (λ (names : List (List ℕ × ℕ)). names ++ names_of (map after actors)) (name_after a stand.0)
@@ -203,8 +203,8 @@ module _ (gone : List ℕ) (n : ℕ) (end : ActorRecord → ActorRecord) (same_n
   mail_after : (P : Letter → Type 0) (a : ActorRecord) → AllByRecursion P a.mailbox → AllByRecursion P (after a).mailbox
   mail_after P a mail = end_cases (λ (z : ActorRecord). AllByRecursion P z.mailbox) gone n end a (λ is. subst (AllByRecursion P) (sym (empty a)) tt) (λ other below active. tt) (λ other below inactive. mail) (λ other beside. mail)
 
-  numbered_after : (m : ℕ) (a : ActorRecord) → numbered m (after a) ≤ numbered m a
-  numbered_after m a = end_cases (λ (z : ActorRecord). numbered m z ≤ numbered m a) gone n end a
+  numbered_after : (m : ℕ) (a : ActorRecord) → letters_numbered m (after a) ≤ letters_numbered m a
+  numbered_after m a = end_cases (λ (z : ActorRecord). letters_numbered m z ≤ letters_numbered m a) gone n end a
       (λ is. omega (arith, ap (λ (letters : List Letter). sum_by (λ (l : Letter). cond (nat_eq l.number m) 1 0) letters) (empty a))) (λ other below active. omega arith) (λ other below inactive. omega arith) (λ other beside. omega arith)
 
   pub mailbox_after : (a : ActorRecord) → length (after a).mailbox ≤ length a.mailbox
@@ -212,24 +212,24 @@ module _ (gone : List ℕ) (n : ℕ) (end : ActorRecord → ActorRecord) (same_n
       (λ is. omega (arith, ap length (empty a))) (λ other below active. omega arith) (λ other below inactive. omega arith) (λ other beside. omega arith)
 
   pub parts_end : (na la ta : ℕ) (actors : List ActorRecord) (timers : List Timer) (names : List (List ℕ × ℕ)) → Rises number_of actors
-      → ((a : ActorRecord) → record_in actors n ≡ Some a → Stands a → Stands (end a)) → Parts na la ta actors timers names
-      → Parts na la ta (map after actors) (fold (λ (others : List Timer) (m : ℕ). without_owner m others) timers gone) (fold without_holder names gone)
+      → ((a : ActorRecord) → record_in actors n ≡ Some a → RecordRules a → RecordRules (end a)) → PartRules na la ta actors timers names
+      → PartRules na la ta (map after actors) (fold (λ (others : List Timer) (m : ℕ). without_owner m others) timers gone) (fold without_holder names gone)
   parts_end na la ta actors timers names rising stands_end parts =
       let left_timers = fold_without (λ (timer : Timer). timer.owner) gone timers in
       let left_names = fold_without (λ (pair : List ℕ × ℕ). pair.1) gone names in
       record {
-        stands = each_map Stands after actors (look_each number_of (λ (a : ActorRecord). Stands (after a)) actors rising (λ m a seen. (
-            let stands : Stands a = each_look number_of Stands actors parts.stands m a seen in
-            end_cases Stands gone n end a (λ is. stands_end a (ap (record_in actors) (sym is ∙ look_number number_of actors m a seen) ∙ seen) stands)
+        stands = each_map RecordRules after actors (look_each number_of (λ (a : ActorRecord). RecordRules (after a)) actors rising (λ m a seen. (
+            let stands : RecordRules a = each_look number_of RecordRules actors parts.stands m a seen in
+            end_cases RecordRules gone n end a (λ is. stands_end a (ap (record_in actors) (sym is ∙ look_number number_of actors m a seen) ∙ seen) stands)
             (λ other below active. stands_stopped a active stands) (λ other below inactive. stands) (λ other beside. stands))));
         mail = each_map (Mail na la) after actors (each_mono (Mail na la) (λ (a : ActorRecord). Mail na la (after a)) actors (mail_after (FitsLetter na la)) parts.mail);
-        once = λ m. omega (arith, sum_map_le (numbered m) after actors (numbered_after m), parts.once m);
+        once = λ m. omega (arith, sum_map_le (letters_numbered m) after actors (numbered_after m), parts.once m);
         timers_fit = subst (AllByRecursion (FitsTimer na ta (map after actors))) (sym left_timers)
             (timers_stay na ta gone actors (map after actors) timers (λ m kept. runs_map after actors number_after m
             (λ a seen active own. (let same : after a ≡ a = stays_after a (ap (is_among gone) (look_number number_of actors m a seen) ∙ kept) in
             (ap is_active same ∙ active, ap (λ (z : ActorRecord). is_some z.own) same ∙ own)))) parts.timers_fit);
         timers_rise = subst (Rises (λ (timer : Timer). timer.order)) (sym left_timers) (pairs_filter (λ (a b : Timer). a.order < b.order) (λ (timer : Timer). not (is_among gone timer.owner)) timers parts.timers_rise);
-        timer_ids = subst (Pairs (λ (a b : Timer). AreOfOneId a b → ⊥)) (sym left_timers) (pairs_filter (λ (a b : Timer). AreOfOneId a b → ⊥) (λ (timer : Timer). not (is_among gone timer.owner)) timers parts.timer_ids);
+        timer_ids = subst (EachPair (λ (a b : Timer). AreOfOneId a b → ⊥)) (sym left_timers) (pairs_filter (λ (a b : Timer). AreOfOneId a b → ⊥) (λ (timer : Timer). not (is_among gone timer.owner)) timers parts.timer_ids);
         names_same = left_names ∙ ap (filter (λ (pair : List ℕ × ℕ). not (is_among gone pair.1))) parts.names_same ∙ sym (names_after actors parts.stands);
-        names_once = subst (Pairs (λ (a b : List ℕ × ℕ). a.0 ≢ b.0)) (sym left_names) (pairs_filter (λ (a b : List ℕ × ℕ). a.0 ≢ b.0) (λ (pair : List ℕ × ℕ). not (is_among gone pair.1)) names parts.names_once);
+        names_once = subst (EachPair (λ (a b : List ℕ × ℕ). a.0 ≢ b.0)) (sym left_names) (pairs_filter (λ (a b : List ℕ × ℕ). a.0 ≢ b.0) (λ (pair : List ℕ × ℕ). not (is_among gone pair.1)) names parts.names_once);
       }

@@ -25,7 +25,7 @@ use Rattle.office_types.specs.ValidOffice.{IsValidOffice}
 use Rattle.office_types.proofs.ValidityListLemmas.{each_look}
 use Rattle.office_types.proofs.ValidityTreeLemmas.{chained, mapped, number_of, record_in}
 use Rattle.office_types.proofs.ValidityPartLemmas.{FitsLetter, Mail}
-use Rattle.office_types.proofs.ValidityLemmas.{Kind, Sound, sound_from}
+use Rattle.office_types.proofs.ValidityLemmas.{HasKind, SoundOffice, sound_from}
 use Rattle.office_types.proofs.ValidityDecisionLemmas.{decisions_keep_validity}
 use Rattle.office_types.proofs.ValidityStepLemmas.{get_each}
 use Rattle.office_types.proofs.ValidityTookLemmas.{machine_of, steps_keep_validity}
@@ -57,12 +57,12 @@ module _ (definitions : OfficeDefinitions) (macrostep : Macrostep) (linked : Are
     by_outcome : (o : Option Outcome) → next_outcome macrostep state n ≡ o → IsValidOffice definitions (option_map_or (λ (outcome : Outcome). took definitions n outcome state) o state)
     by_outcome None is = valid
     by_outcome (Some outcome) is =
-        let sound : Sound (Kind definitions) state.callers state = sound_from definitions state valid room in
+        let sound : SoundOffice (HasKind definitions) state.callers state = sound_from definitions state valid room in
         let own = chained (λ (o : Own). option_map (λ (letter : Letter). macrostep o letter.event) (head_of state n)) (own_of state n) outcome is in
         let letter = mapped (λ (l : Letter). macrostep own.0 l.event) (head_of state n) outcome own.2 in
         let owner = chained (λ (a : ActorRecord). a.own) (record_of state n) own.0 own.1 in
         let head = chained (λ (a : ActorRecord). slice_get a.mailbox 0) (record_of state n) letter.0 letter.1 in
-        let machine = machine_of definitions owner.0 own.0 owner.2 (each_look number_of (Kind definitions) state.actors sound.kinds n owner.0 owner.1) in
+        let machine = machine_of definitions owner.0 own.0 owner.2 (each_look number_of (HasKind definitions) state.actors sound.kinds n owner.0 owner.1) in
         let fits : FitsLetter state.next_actor state.next_letter letter.0 =
             get_each (FitsLetter state.next_actor state.next_letter) head.0.mailbox 0 letter.0 (each_look number_of (Mail state.next_actor state.next_letter) state.actors sound.parts.mail n head.0 head.1) head.2 in
         steps_keep_validity definitions state n own.0 outcome linked valid ready own.1 (subst (IsAllowedOutcome definitions own.0) letter.2 (allows own.0 letter.0.event machine.0 machine.1 fits.2)) room

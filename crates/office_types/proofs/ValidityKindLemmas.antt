@@ -26,8 +26,8 @@ use Rattle.office_types.specs.ValidOffice.{HasInitAsHead, HasItsInit, HasNoInit,
 use Rattle.office_types.proofs.ValidityListLemmas.{each_look, each_push, look_number}
 use Rattle.office_types.proofs.ValidityEventLemmas.{begins_none, null_is_short}
 use Rattle.office_types.proofs.ValidityTreeLemmas.{number_of, record_in}
-use Rattle.office_types.proofs.ValidityPartLemmas.{Stands, running, runs, runs_from}
-use Rattle.office_types.proofs.ValidityLemmas.{Kind, Sound}
+use Rattle.office_types.proofs.ValidityPartLemmas.{RecordRules, running, runs_in, runs_from}
+use Rattle.office_types.proofs.ValidityLemmas.{HasKind, SoundOffice}
 use Rattle.office_types.proofs.ValidityChangeLemmas.{letter_sound, new_letter}
 
 -- ---- kinds
@@ -48,7 +48,7 @@ its_init_push own letters letter none is = by_begun own.begun is where
 
 module _ (definitions : OfficeDefinitions) where
   -- a machine actor gets a letter that begins none
-  pub kind_mail : (letter : Letter) (a : ActorRecord) → is_init letter ≡ false → is_some a.own ≡ true → Kind definitions a → Kind definitions (with_mail letter a)
+  pub kind_mail : (letter : Letter) (a : ActorRecord) → is_init letter ≡ false → is_some a.own ≡ true → HasKind definitions a → HasKind definitions (with_mail letter a)
   kind_mail letter a none own kind = by_kind a.own a.item own kind where
     by_kind : (own : Option Own) (item : Option Item) → is_some own ≡ true → IsOfOneKind definitions a own item → IsOfOneKind definitions (with_mail letter a) own item
     by_kind (Some own) None is kind = record { machine = kind.machine; part = kind.part; kids = kind.kids; init = λ active. its_init_push own a.mailbox letter none (kind.init active) }
@@ -57,7 +57,7 @@ module _ (definitions : OfficeDefinitions) where
     by_kind None None is kind = absurd kind
 
   -- a kind of one that ended
-  pub kind_over : (a b : ActorRecord) → b.number ≡ a.number → b.own ≡ a.own → b.item ≡ a.item → b.kids ≡ a.kids → b.mailbox ≡ [] → is_active b ≡ false → Kind definitions a → Kind definitions b
+  pub kind_over : (a b : ActorRecord) → b.number ≡ a.number → b.own ≡ a.own → b.item ≡ a.item → b.kids ≡ a.kids → b.mailbox ≡ [] → is_active b ≡ false → HasKind definitions a → HasKind definitions b
   kind_over a b same_number same_own same_item same_kids empty inactive kind =
       subst (λ (o : Option Own). IsOfOneKind definitions b o b.item) (sym same_own) (subst (λ (i : Option Item). IsOfOneKind definitions b a.own i) (sym same_item) (by_kind a.own a.item kind)) where
         by_kind : (own : Option Own) (item : Option Item) → IsOfOneKind definitions a own item → IsOfOneKind definitions b own item
@@ -71,12 +71,12 @@ module _ (definitions : OfficeDefinitions) where
         by_kind None (Some item) kind = record { number = kind.number ∙ sym same_number; input = kind.input; kids = same_kids ∙ kind.kids; letters = empty }
         by_kind None None kind = absurd kind
 
-  pub kind_stopped : (a : ActorRecord) → Kind definitions a → Kind definitions (ended_record status.Stopped a)
+  pub kind_stopped : (a : ActorRecord) → HasKind definitions a → HasKind definitions (ended_record status.Stopped a)
   kind_stopped a kind = kind_over a (ended_record status.Stopped a) refl refl refl refl refl refl kind
 
   -- a machine actor with the letter that begins it
   pub kind_begins : (number : ℕ) (parent : Option ℕ) (system : Option (List ℕ)) (machine : ℕ) (letter : Letter) → machine < length definitions.machines → is_init letter ≡ true
-      → Kind definitions (with_mail letter (fresh_record number parent system (Some (fresh_own machine)) None))
+      → HasKind definitions (with_mail letter (fresh_record number parent system (Some (fresh_own machine)) None))
   kind_begins number parent system machine letter below begins = record {
     machine = below;
     part = inl refl;
@@ -85,7 +85,7 @@ module _ (definitions : OfficeDefinitions) where
   }
 
   -- who has a child is a machine actor
-  parent_is_machine : (a : ActorRecord) (c : ℕ) → count_by (λ (kid : List ℕ × ℕ). nat_eq kid.1 c) a.kids ≡ 1 → Kind definitions a → is_some a.own ≡ true
+  parent_is_machine : (a : ActorRecord) (c : ℕ) → count_by (λ (kid : List ℕ × ℕ). nat_eq kid.1 c) a.kids ≡ 1 → HasKind definitions a → is_some a.own ≡ true
   parent_is_machine a c listed kind = by_kind a.own a.item kind where
     by_kind : (own : Option Own) (item : Option Item) → IsOfOneKind definitions a own item → is_some own ≡ true
     by_kind (Some own) item kind = refl
@@ -93,8 +93,8 @@ module _ (definitions : OfficeDefinitions) where
     by_kind None None kind = absurd kind
 
   -- the parent of an active actor is an active machine actor
-  pub parent_runs : (K : ActorRecord → Type 0) (callers : List Caller) (state : OfficeState) → Sound K callers state → (n p : ℕ) (a : ActorRecord) → record_in state.actors n ≡ Some a → is_active a ≡ true
-      → a.parent ≡ Some p → ((b : ActorRecord) → record_in state.actors p ≡ Some b → p < n → K b → Kind definitions b) → runs state.actors p ≡ true
+  pub parent_runs : (K : ActorRecord → Type 0) (callers : List Caller) (state : OfficeState) → SoundOffice K callers state → (n p : ℕ) (a : ActorRecord) → record_in state.actors n ≡ Some a → is_active a ≡ true
+      → a.parent ≡ Some p → ((b : ActorRecord) → record_in state.actors p ≡ Some b → p < n → K b → HasKind definitions b) → runs_in state.actors p ≡ true
   parent_runs K callers state sound n p a seen active parent kinds =
       let child = sound.tree.parents n a p seen parent in
       let at_n : a.number ≡ n = look_number number_of state.actors n a seen in
@@ -104,7 +104,7 @@ module _ (definitions : OfficeDefinitions) where
 
 -- ---- how ended records stand
 
-pub stands_done : (output : Value) (a : ActorRecord) → is_active a ≡ true → is_short output ≡ true → Stands a → Stands (done_record output a)
+pub stands_done : (output : Value) (a : ActorRecord) → is_active a ≡ true → is_short output ≡ true → RecordRules a → RecordRules (done_record output a)
 stands_done output a active short stands = record {
   ended = λ is. record { letters = refl; name = refl };
   system = tt;
@@ -114,7 +114,7 @@ stands_done output a active short stands = record {
   mailbox = tt;
 }
 
-pub stands_error : (error : Value) (a : ActorRecord) → is_active a ≡ true → is_short error ≡ true → Stands a → Stands (error_record error a)
+pub stands_error : (error : Value) (a : ActorRecord) → is_active a ≡ true → is_short error ≡ true → RecordRules a → RecordRules (error_record error a)
 stands_error error a active short stands = record {
   ended = λ is. record { letters = refl; name = refl };
   system = tt;
@@ -124,7 +124,7 @@ stands_error error a active short stands = record {
   mailbox = tt;
 }
 
-pub stands_fresh : (number : ℕ) (parent : Option ℕ) (system : Option (List ℕ)) (own : Option Own) (item : Option Item) → IfSome system (λ name. IsTrue (is_name name)) → Stands (fresh_record number parent system own item)
+pub stands_fresh : (number : ℕ) (parent : Option ℕ) (system : Option (List ℕ)) (own : Option Own) (item : Option Item) → IfSome system (λ name. IsTrue (is_name name)) → RecordRules (fresh_record number parent system own item)
 stands_fresh number parent system own item name = record {
   ended = λ is. absurd (true≢false is);
   system = name;
@@ -146,12 +146,12 @@ room_of state more room =
 
 -- ---- letters to parents
 
-module _ (definitions : OfficeDefinitions) (callers : List Caller) (state : OfficeState) (n : ℕ) (event : List ℕ → Value) (sound : Sound (Kind definitions) callers state) (given : IsGiven state.next_actor n)
+module _ (definitions : OfficeDefinitions) (callers : List Caller) (state : OfficeState) (n : ℕ) (event : List ℕ → Value) (sound : SoundOffice (HasKind definitions) callers state) (given : IsGiven state.next_actor n)
     (fits : (id : List ℕ) → is_event (event id) ≡ true) (begins : (id : List ℕ) → begins_none (event id)) where
-  to_parent : (p : ℕ) → runs state.actors p ≡ true → has_letter_room state 1 ≡ true → Sound (Kind definitions) callers (with_letter state (origin.Actor n) p (event (child_id state p n)))
+  to_parent : (p : ℕ) → runs_in state.actors p ≡ true → has_letter_room state 1 ≡ true → SoundOffice (HasKind definitions) callers (with_letter state (origin.Actor n) p (event (child_id state p n)))
   to_parent p runner room =
       let letter_event : Value = event (child_id state p n) in
-      letter_sound (Kind definitions) (Kind definitions) callers state (origin.Actor n) p letter_event sound room given (fits (child_id state p n)) runner (λ a differs kind. kind)
+      letter_sound (HasKind definitions) (HasKind definitions) callers state (origin.Actor n) p letter_event sound room given (fits (child_id state p n)) runner (λ a differs kind. kind)
       (λ a seen kind. (
       let runner_record = running state.actors p runner in
       let same_record : Some runner_record.0 ≡ Some a = sym runner_record.1 ∙ seen in
@@ -159,19 +159,19 @@ module _ (definitions : OfficeDefinitions) (callers : List Caller) (state : Offi
       kind_mail definitions (new_letter state (origin.Actor n) letter_event) a (begins (child_id state p n)) (ap (λ (z : ActorRecord). is_some z.own) (sym same) ∙ runner_record.3) kind))
 
   -- a letter to the parent, if there is one
-  pub told_sound : ((p : ℕ) → parent_of state n ≡ Some p → runs state.actors p ≡ true) → ((p : ℕ) → parent_of state n ≡ Some p → has_letter_room state 1 ≡ true) → Sound (Kind definitions) callers (with_letter_to_parent state n event)
+  pub told_sound : ((p : ℕ) → parent_of state n ≡ Some p → runs_in state.actors p ≡ true) → ((p : ℕ) → parent_of state n ≡ Some p → has_letter_room state 1 ≡ true) → SoundOffice (HasKind definitions) callers (with_letter_to_parent state n event)
   told_sound runner room = by_parent (parent_of state n) refl where
-    by_parent : (o : Option ℕ) → parent_of state n ≡ o → Sound (Kind definitions) callers (option_map_or (λ (parent : ℕ). with_letter state (origin.Actor n) parent (event (child_id state parent n))) o state)
+    by_parent : (o : Option ℕ) → parent_of state n ≡ o → SoundOffice (HasKind definitions) callers (option_map_or (λ (parent : ℕ). with_letter state (origin.Actor n) parent (event (child_id state parent n))) o state)
     by_parent None is = sound
     by_parent (Some p) is = to_parent p (runner p is) (room p is)
 
   -- the same, where it finds room
-  pub told_if_room : ((p : ℕ) → parent_of state n ≡ Some p → runs state.actors p ≡ true) → (after : OfficeState) → after_telling_parent state n event ≡ Ok after → Sound (Kind definitions) callers after
+  pub told_if_room : ((p : ℕ) → parent_of state n ≡ Some p → runs_in state.actors p ≡ true) → (after : OfficeState) → after_telling_parent state n event ≡ Ok after → SoundOffice (HasKind definitions) callers after
   told_if_room runner after is = by_parent (parent_of state n) refl is where
-    by_room : (p : ℕ) → runs state.actors p ≡ true → (b : Bool) → has_letter_room state 1 ≡ b → (if b then Ok (with_letter state (origin.Actor n) p (event (child_id state p n))) else Err fault.LettersFull) ≡ Ok after → Sound (Kind definitions) callers after
-    by_room p runner true room is = (let same : with_letter state (origin.Actor n) p (event (child_id state p n)) ≡ after = cc in subst (Sound (Kind definitions) callers) same (to_parent p runner room))
+    by_room : (p : ℕ) → runs_in state.actors p ≡ true → (b : Bool) → has_letter_room state 1 ≡ b → (if b then Ok (with_letter state (origin.Actor n) p (event (child_id state p n))) else Err fault.LettersFull) ≡ Ok after → SoundOffice (HasKind definitions) callers after
+    by_room p runner true room is = (let same : with_letter state (origin.Actor n) p (event (child_id state p n)) ≡ after = cc in subst (SoundOffice (HasKind definitions) callers) same (to_parent p runner room))
     by_room p runner false room is = absurd (cc)
 
-    by_parent : (o : Option ℕ) → parent_of state n ≡ o → option_map_or (λ (parent : ℕ). with_letter_if_room state (origin.Actor n) parent (event (child_id state parent n))) o (Ok state) ≡ Ok after → Sound (Kind definitions) callers after
-    by_parent None none is = (let same : state ≡ after = cc in subst (Sound (Kind definitions) callers) same sound)
+    by_parent : (o : Option ℕ) → parent_of state n ≡ o → option_map_or (λ (parent : ℕ). with_letter_if_room state (origin.Actor n) parent (event (child_id state parent n))) o (Ok state) ≡ Ok after → SoundOffice (HasKind definitions) callers after
+    by_parent None none is = (let same : state ≡ after = cc in subst (SoundOffice (HasKind definitions) callers) same sound)
     by_parent (Some p) parent is = by_room p (runner p parent) (has_letter_room state 1) refl is

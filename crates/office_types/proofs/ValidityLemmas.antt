@@ -18,13 +18,13 @@ use Rattle.office_types.specs.Mailboxes.{waiting_letters}
 use Rattle.office_types.specs.Records.{active_actors}
 use Rattle.office_types.specs.Step.{with_entry}
 use Rattle.office_types.specs.ValidOffice.{AreOfOneId, HasParent, IsActor, IsCaller, IsChildOf, IsGiven, IsLetter, IsNextNumber, IsOfOneKind, IsOrigin, IsTimer, IsValidOffice, letters_of}
-use Rattle.office_types.proofs.ValidityListLemmas.{Pairs, all_from_pairs, each_flat_map, each_look, each_mono, flat_map_each, increasing_from_rises, look_each, look_number, none_counted, count_none, pairs_from, rises_from}
-use Rattle.office_types.proofs.ValidityTreeLemmas.{Child, Tree, number_of, parent_in, record_in, within, within_is}
-use Rattle.office_types.proofs.ValidityPartLemmas.{FitsLetter, FitsOrigin, FitsTimer, Parts, Stands}
+use Rattle.office_types.proofs.ValidityListLemmas.{EachPair, all_from_pairs, each_flat_map, each_look, each_mono, flat_map_each, increasing_from_rises, look_each, look_number, none_counted, count_none, pairs_from, rises_from}
+use Rattle.office_types.proofs.ValidityTreeLemmas.{ChildIn, ActorTree, number_of, parent_in, record_in, within, within_is}
+use Rattle.office_types.proofs.ValidityPartLemmas.{FitsLetter, FitsOrigin, FitsTimer, PartRules, RecordRules}
 
 -- ---- what is counted
 
-pub record Counts (callers : List Caller) (state : OfficeState) : Type 0 where
+pub record CountRules (callers : List Caller) (state : OfficeState) : Type 0 where
   pub actor : IsNextNumber state.next_actor
   pub letter : IsNextNumber state.next_letter
   pub timer : IsNextNumber state.next_timer
@@ -36,15 +36,15 @@ pub record Counts (callers : List Caller) (state : OfficeState) : Type 0 where
   pub same_callers : state.callers ≡ callers
 
 -- an office whose actors are of such kinds, with room for an entry
-pub record Sound (K : ActorRecord → Type 0) (callers : List Caller) (state : OfficeState) : Type 0 where
-  pub counts : Counts callers state
-  pub tree : Tree state.next_actor state.actors
-  pub parts : Parts state.next_actor state.next_letter state.next_timer state.actors state.timers state.names
+pub record SoundOffice (K : ActorRecord → Type 0) (callers : List Caller) (state : OfficeState) : Type 0 where
+  pub counts : CountRules callers state
+  pub tree : ActorTree state.next_actor state.actors
+  pub parts : PartRules state.next_actor state.next_letter state.next_timer state.actors state.timers state.names
   pub kinds : AllByRecursion K state.actors
 
 -- the kinds of a valid office
-abbrev pub Kind : OfficeDefinitions → ActorRecord → Type 0
-Kind definitions actor = IsOfOneKind definitions actor actor.own actor.item
+abbrev pub HasKind : OfficeDefinitions → ActorRecord → Type 0
+HasKind definitions actor = IsOfOneKind definitions actor actor.own actor.item
 
 -- the rules of callers
 pub record CallerRules (callers : List Caller) : Type 0 where
@@ -60,7 +60,7 @@ count_flat p [] = refl
 count_flat p (actor ∷ actors) =
     omega (arith, sum_by-cons (λ (a : ActorRecord). count_by p a.mailbox) actor actors, sum_by-append (λ (l : Letter). cond (p l) 1 0) actor.mailbox (letters_of actors), count_flat p actors)
 
-counted_once : (letters : List Letter) → Pairs (λ (a b : Letter). a.number ≢ b.number) letters → (m : ℕ) → count_by (λ (l : Letter). nat_eq l.number m) letters ≤ 1
+counted_once : (letters : List Letter) → EachPair (λ (a b : Letter). a.number ≢ b.number) letters → (m : ℕ) → count_by (λ (l : Letter). nat_eq l.number m) letters ≤ 1
 counted_once [] differ m = omega arith
 counted_once (letter ∷ letters) differ m = by_test (counted_once letters differ.1 m) (sum_by-cons (λ (l : Letter). cond (nat_eq l.number m) 1 0) letter letters) (nat_eq letter.number m) refl where
   by_test : count_by (λ (l : Letter). nat_eq l.number m) letters ≤ 1
@@ -76,7 +76,7 @@ counted_once (letter ∷ letters) differ m = by_test (counted_once letters diffe
       )
   by_test rest whole false is = omega (arith, ap {B = ℕ} (λ (b : Bool). cond b 1 0) is)
 
-once_counted : (letters : List Letter) → ((m : ℕ) → count_by (λ (l : Letter). nat_eq l.number m) letters ≤ 1) → Pairs (λ (a b : Letter). a.number ≢ b.number) letters
+once_counted : (letters : List Letter) → ((m : ℕ) → count_by (λ (l : Letter). nat_eq l.number m) letters ≤ 1) → EachPair (λ (a b : Letter). a.number ≢ b.number) letters
 once_counted [] counted = tt
 once_counted (letter ∷ letters) counted = (
   each_mono (λ (l : Letter). nat_eq l.number letter.number ≡ false) (λ (l : Letter). letter.number ≢ l.number) letters (λ l differs e. eqb-false l.number letter.number differs (sym e))
@@ -104,7 +104,7 @@ is_origin state (origin.Caller name) is = tt
 is_origin state (origin.Actor number) is = is
 
 module _ (definitions : OfficeDefinitions) (state : OfficeState) where
-  stands_from : (a : ActorRecord) → IsActor definitions state a → Stands a
+  stands_from : (a : ActorRecord) → IsActor definitions state a → RecordRules a
   stands_from a is = record {
     ended = is.ended;
     system = is.system;
@@ -114,10 +114,10 @@ module _ (definitions : OfficeDefinitions) (state : OfficeState) where
     mailbox = rises_from (λ (letter : Letter). letter.number) a.mailbox is.mailbox;
   }
 
-  child_from : (a : ActorRecord) (p : ℕ) → IsChildOf state a p → Child state.actors a p
+  child_from : (a : ActorRecord) (p : ℕ) → IsChildOf state a p → ChildIn state.actors a p
   child_from a p is = record { above = is.parent; seen = is.record'; smaller = is.smaller; listed = is.listed; active = is.active }
 
-  tree_from : AllByRecursion (IsActor definitions state) state.actors → IsValidOffice definitions state → Tree state.next_actor state.actors
+  tree_from : AllByRecursion (IsActor definitions state) state.actors → IsValidOffice definitions state → ActorTree state.next_actor state.actors
   tree_from each valid = record {
     rise = rises_from number_of state.actors valid.actors_rise;
     given = each_mono (IsActor definitions state) (λ (a : ActorRecord). IsGiven state.next_actor a.number) state.actors (λ a is. is.number) each;
@@ -134,9 +134,9 @@ module _ (definitions : OfficeDefinitions) (state : OfficeState) where
   timer_from : (timer : Timer) → IsTimer state timer → FitsTimer state.next_actor state.next_timer state.actors timer
   timer_from timer is = record { order = is.order; owner = is.owner; target = is.target; id = is.id; event = is.event; no_init = is.no_init }
 
-  parts_from : AllByRecursion (IsActor definitions state) state.actors → IsValidOffice definitions state → Parts state.next_actor state.next_letter state.next_timer state.actors state.timers state.names
+  parts_from : AllByRecursion (IsActor definitions state) state.actors → IsValidOffice definitions state → PartRules state.next_actor state.next_letter state.next_timer state.actors state.timers state.names
   parts_from each valid = record {
-    stands = each_mono (IsActor definitions state) Stands state.actors stands_from each;
+    stands = each_mono (IsActor definitions state) RecordRules state.actors stands_from each;
     mail = flat_map_each (FitsLetter state.next_actor state.next_letter) (λ (a : ActorRecord). a.mailbox) state.actors
         (each_mono (IsLetter state) (FitsLetter state.next_actor state.next_letter) (letters_of state.actors) (λ letter is. (is.number, fits_origin state letter.origin is.origin, is.event)) (recursion_from_All (IsLetter state) (letters_of state.actors) valid.letters));
     once = λ m. omega (arith, count_flat (λ (l : Letter). nat_eq l.number m) state.actors, counted_once (letters_of state.actors) (pairs_from (λ (a b : Letter). a.number ≢ b.number) (letters_of state.actors) valid.letters_once) m);
@@ -147,7 +147,7 @@ module _ (definitions : OfficeDefinitions) (state : OfficeState) where
     names_once = pairs_from (λ (a b : List ℕ × ℕ). a.0 ≢ b.0) state.names valid.names_once;
   }
 
-  pub sound_from : IsValidOffice definitions state → state.entries < MAX_ENTRIES → Sound (Kind definitions) state.callers state
+  pub sound_from : IsValidOffice definitions state → state.entries < MAX_ENTRIES → SoundOffice (HasKind definitions) state.callers state
   sound_from valid room =
       let each = recursion_from_All (IsActor definitions state) state.actors valid.actors in
       record {
@@ -164,7 +164,7 @@ module _ (definitions : OfficeDefinitions) (state : OfficeState) where
         };
         tree = tree_from each valid;
         parts = parts_from each valid;
-        kinds = each_mono (IsActor definitions state) (Kind definitions) state.actors (λ a is. is.kind) each;
+        kinds = each_mono (IsActor definitions state) (HasKind definitions) state.actors (λ a is. is.kind) each;
       }
 
   pub caller_rules : IsValidOffice definitions state → CallerRules state.callers
@@ -172,20 +172,20 @@ module _ (definitions : OfficeDefinitions) (state : OfficeState) where
 
   -- ---- to a valid office, one entry later
 
-  module _ (callers before : List Caller) (rules : CallerRules callers) (sound : Sound (Kind definitions) before state) where
+  module _ (callers before : List Caller) (rules : CallerRules callers) (sound : SoundOffice (HasKind definitions) before state) where
     abbrev later : OfficeState
     later = with_entry (record state { callers = callers })
 
-    child_to : (a : ActorRecord) (p : ℕ) → Child state.actors a p → IsChildOf later a p
+    child_to : (a : ActorRecord) (p : ℕ) → ChildIn state.actors a p → IsChildOf later a p
     child_to a p is = record { parent = is.above; record' = is.seen; smaller = is.smaller; listed = is.listed; active = is.active }
 
     actor_to : (n : ℕ) (a : ActorRecord) → record_in state.actors n ≡ Some a → IsActor definitions later a
     actor_to n a seen =
         let same : a.number ≡ n = look_number number_of state.actors n a seen in
-        let stands : Stands a = each_look number_of Stands state.actors sound.parts.stands n a seen in
+        let stands : RecordRules a = each_look number_of RecordRules state.actors sound.parts.stands n a seen in
         record {
           number = each_look number_of (λ (z : ActorRecord). IsGiven state.next_actor z.number) state.actors sound.tree.given n a seen;
-          kind = each_look number_of (Kind definitions) state.actors sound.kinds n a seen;
+          kind = each_look number_of (HasKind definitions) state.actors sound.kinds n a seen;
           parent = some_from (IsChildOf later a) a.parent (λ p is. child_to a p (sound.tree.parents n a p seen is));
           kids = All-from_recursion (λ (kid : List ℕ × ℕ). HasParent later a.number kid.1) a.kids
               (subst (λ (m : ℕ). AllByRecursion (λ (kid : List ℕ × ℕ). parent_in state.actors kid.1 ≡ Some m) a.kids) (sym same) (sound.tree.kids n a seen));

@@ -61,39 +61,39 @@ flat_map_each P f (x ∷ xs) all = let parts = each_split P (f x) (flat_map f xs
 -- ---- each two items
 
 -- each item is so related to each later one
-abbrev pub Pairs : {X : Type 0} → (X → X → Type 0) → List X → Type 0
-Pairs R [] = ⊤
-Pairs R (x ∷ xs) = AllByRecursion (R x) xs × Pairs R xs
+abbrev pub EachPair : {X : Type 0} → (X → X → Type 0) → List X → Type 0
+EachPair R [] = ⊤
+EachPair R (x ∷ xs) = AllByRecursion (R x) xs × EachPair R xs
 
-pub pairs_from : {X : Type 0} (R : X → X → Type 0) (xs : List X) → AllPairs R xs → Pairs R xs
+pub pairs_from : {X : Type 0} (R : X → X → Type 0) (xs : List X) → AllPairs R xs → EachPair R xs
 pairs_from R [] all = tt
 pairs_from R (x ∷ xs) all =
     (recursion_from_All (R x) xs (λ k d within. all 0 (suc k) d (omega arith) (omega arith)), pairs_from R xs (λ i j d before within. all (suc i) (suc j) d (omega arith) (omega arith)))
 
-pub all_from_pairs : {X : Type 0} (R : X → X → Type 0) (xs : List X) → Pairs R xs → AllPairs R xs
+pub all_from_pairs : {X : Type 0} (R : X → X → Type 0) (xs : List X) → EachPair R xs → AllPairs R xs
 all_from_pairs R [] pairs = λ i j d before within. absurd (omega arith)
 all_from_pairs R (x ∷ xs) pairs = AllPairs-cons R x xs (All-from_recursion (R x) xs pairs.0) (all_from_pairs R xs pairs.1)
 
-pub pairs_map : {X Y : Type 0} (R : X → X → Type 0) (S : Y → Y → Type 0) (f : X → Y) (xs : List X) → ((x y : X) → R x y → S (f x) (f y)) → Pairs R xs → Pairs S (map f xs)
+pub pairs_map : {X Y : Type 0} (R : X → X → Type 0) (S : Y → Y → Type 0) (f : X → Y) (xs : List X) → ((x y : X) → R x y → S (f x) (f y)) → EachPair R xs → EachPair S (map f xs)
 pairs_map R S f [] keeps pairs = tt
 pairs_map R S f (x ∷ xs) keeps pairs = (each_map (S (f x)) f xs (each_mono (R x) (λ y. S (f x) (f y)) xs (keeps x) pairs.0), pairs_map R S f xs keeps pairs.1)
 
-pub map_pairs : {X Y : Type 0} (S : Y → Y → Type 0) (f : X → Y) (xs : List X) → Pairs S (map f xs) → Pairs (λ x y. S (f x) (f y)) xs
+pub map_pairs : {X Y : Type 0} (S : Y → Y → Type 0) (f : X → Y) (xs : List X) → EachPair S (map f xs) → EachPair (λ x y. S (f x) (f y)) xs
 map_pairs S f [] pairs = tt
 map_pairs S f (x ∷ xs) pairs = (each_of_map (S (f x)) f xs pairs.0, map_pairs S f xs pairs.1)
 
-pub pairs_filter : {X : Type 0} (R : X → X → Type 0) (test : X → Bool) (xs : List X) → Pairs R xs → Pairs R (filter test xs)
+pub pairs_filter : {X : Type 0} (R : X → X → Type 0) (test : X → Bool) (xs : List X) → EachPair R xs → EachPair R (filter test xs)
 pairs_filter R test [] pairs = tt
 pairs_filter R test (x ∷ xs) pairs = by_test (pairs_filter R test xs pairs.1) (test x) where
-  by_test : Pairs R (filter test xs) → (b : Bool) → Pairs R (cond b (x ∷ filter test xs) (filter test xs))
+  by_test : EachPair R (filter test xs) → (b : Bool) → EachPair R (cond b (x ∷ filter test xs) (filter test xs))
   by_test rest true = (each_filter (R x) test xs pairs.0, rest)
   by_test rest false = rest
 
-pub pairs_push : {X : Type 0} (R : X → X → Type 0) (xs : List X) (y : X) → Pairs R xs → AllByRecursion (λ x. R x y) xs → Pairs R (xs ++ y ∷ [])
+pub pairs_push : {X : Type 0} (R : X → X → Type 0) (xs : List X) (y : X) → EachPair R xs → AllByRecursion (λ x. R x y) xs → EachPair R (xs ++ y ∷ [])
 pairs_push R [] y pairs all = (tt, tt)
 pairs_push R (x ∷ xs) y pairs all = (each_push (R x) xs y pairs.0 all.0, pairs_push R xs y pairs.1 all.1)
 
-pub pairs_mono : {X : Type 0} (R S : X → X → Type 0) (xs : List X) → ((x y : X) → R x y → S x y) → Pairs R xs → Pairs S xs
+pub pairs_mono : {X : Type 0} (R S : X → X → Type 0) (xs : List X) → ((x y : X) → R x y → S x y) → EachPair R xs → EachPair S xs
 pairs_mono R S [] gives pairs = tt
 pairs_mono R S (x ∷ xs) gives pairs = (each_mono (R x) (S x) xs (gives x) pairs.0, pairs_mono R S xs gives pairs.1)
 
@@ -101,7 +101,7 @@ pairs_mono R S (x ∷ xs) gives pairs = (each_mono (R x) (S x) xs (gives x) pair
 
 -- the numbers rise
 abbrev pub Rises : {X : Type 0} → (X → ℕ) → List X → Type 0
-Rises f xs = Pairs (λ x y. f x < f y) xs
+Rises f xs = EachPair (λ x y. f x < f y) xs
 
 pub rises_from : {X : Type 0} (f : X → ℕ) (xs : List X) → IsStrictlyIncreasing (map f xs) → Rises f xs
 rises_from f xs rising = map_pairs (λ m n. m < n) f xs (pairs_from (λ m n. m < n) (map f xs) (AllPairs-from_increasing (map f xs) rising))
@@ -130,8 +130,8 @@ sum_push f xs y = omega (arith, sum_by-append f xs (y ∷ []), sum_by-cons f y [
 
 module _ {X : Type 0} (number : X → ℕ) where
   -- the item with this number changed
-  abbrev pub at : ℕ → (X → X) → X → X
-  at n change x = if nat_eq (number x) n then change x else x
+  abbrev pub change_at : ℕ → (X → X) → X → X
+  change_at n change x = if nat_eq (number x) n then change x else x
 
   abbrev pub look : List X → ℕ → Option X
   look xs n = find (λ x. nat_eq (number x) n) xs
@@ -204,34 +204,34 @@ module _ {X : Type 0} (number : X → ℕ) where
     by_number others rest false is = other others rest (keep (number x)) is ∙ ap (λ (b : Bool). if keep n then cond b (Some x) (look xs n) else None) (sym is)
 
   -- a change at a number leaves items without it
-  pub at_none : (n : ℕ) (change : X → X) (xs : List X) → AllByRecursion (λ x. number x ≢ n) xs → map (at n change) xs ≡ xs
+  pub at_none : (n : ℕ) (change : X → X) (xs : List X) → AllByRecursion (λ x. number x ≢ n) xs → map (change_at n change) xs ≡ xs
   at_none n change [] all = refl
   at_none n change (x ∷ xs) all =
-      ap (λ (b : Bool). (if b then change x else x) ∷ map (at n change) xs) (ne_eqb (number x) n all.0) ∙ ap (λ (ys : List X). x ∷ ys) (at_none n change xs all.1)
+      ap (λ (b : Bool). (if b then change x else x) ∷ map (change_at n change) xs) (ne_eqb (number x) n all.0) ∙ ap (λ (ys : List X). x ∷ ys) (at_none n change xs all.1)
 
   -- a change of one item adds to a sum at most what it adds there
-  pub sum_at_le : (f : X → ℕ) (more : ℕ) (n : ℕ) (change : X → X) (xs : List X) → Rises number xs → ((x : X) → f (change x) ≤ f x + more) → sum_by f (map (at n change) xs) ≤ sum_by f xs + more
+  pub sum_at_le : (f : X → ℕ) (more : ℕ) (n : ℕ) (change : X → X) (xs : List X) → Rises number xs → ((x : X) → f (change x) ≤ f x + more) → sum_by f (map (change_at n change) xs) ≤ sum_by f xs + more
   sum_at_le f more n change [] rising adds = omega arith
   sum_at_le f more n change (x ∷ xs) rising adds = by_number (sum_at_le f more n change xs rising.1 adds) (nat_eq (number x) n) refl where
-    by_number : sum_by f (map (at n change) xs) ≤ sum_by f xs + more → (b : Bool) → nat_eq (number x) n ≡ b → sum_by f ((if b then change x else x) ∷ map (at n change) xs) ≤ sum_by f (x ∷ xs) + more
+    by_number : sum_by f (map (change_at n change) xs) ≤ sum_by f xs + more → (b : Bool) → nat_eq (number x) n ≡ b → sum_by f ((if b then change x else x) ∷ map (change_at n change) xs) ≤ sum_by f (x ∷ xs) + more
     by_number rest true is =
         let same : number x ≡ n = eqb-true (number x) n is in
-        let others : map (at n change) xs ≡ xs = at_none n change xs (each_mono (λ y. number x < number y) (λ y. number y ≢ n) xs (λ y less e. omega arith) rising.0) in
-        omega (arith, sum_by-cons f x xs, sum_by-cons f (change x) (map (at n change) xs), ap (sum_by f) others, adds x)
-    by_number rest false is = omega (arith, sum_by-cons f x xs, sum_by-cons f x (map (at n change) xs))
+        let others : map (change_at n change) xs ≡ xs = at_none n change xs (each_mono (λ y. number x < number y) (λ y. number y ≢ n) xs (λ y less e. omega arith) rising.0) in
+        omega (arith, sum_by-cons f x xs, sum_by-cons f (change x) (map (change_at n change) xs), ap (sum_by f) others, adds x)
+    by_number rest false is = omega (arith, sum_by-cons f x xs, sum_by-cons f x (map (change_at n change) xs))
 
-  pub at_number : (n : ℕ) (change : X → X) → ((x : X) → number (change x) ≡ number x) → (x : X) → number (at n change x) ≡ number x
+  pub at_number : (n : ℕ) (change : X → X) → ((x : X) → number (change x) ≡ number x) → (x : X) → number (change_at n change x) ≡ number x
   at_number n change same x = by_test (nat_eq (number x) n) where
     by_test : (b : Bool) → number (if b then change x else x) ≡ number x
     by_test true = same x
     by_test false = refl
 
-  pub rises_at : (n : ℕ) (change : X → X) (xs : List X) → ((x : X) → number (change x) ≡ number x) → Rises number xs → Rises number (map (at n change) xs)
-  rises_at n change xs same rising = pairs_map (λ x y. number x < number y) (λ x y. number x < number y) (at n change) xs (λ x y less. omega (arith, at_number n change same x, at_number n change same y)) rising
+  pub rises_at : (n : ℕ) (change : X → X) (xs : List X) → ((x : X) → number (change x) ≡ number x) → Rises number xs → Rises number (map (change_at n change) xs)
+  rises_at n change xs same rising = pairs_map (λ x y. number x < number y) (λ x y. number x < number y) (change_at n change) xs (λ x y less. omega (arith, at_number n change same x, at_number n change same y)) rising
 
   -- a fact of each item, where the item with the number changed
   pub each_at : (P Q : X → Type 0) (n : ℕ) (change : X → X) (xs : List X) → Rises number xs → AllByRecursion P xs → ((x : X) → number x ≢ n → P x → Q x)
-      → ((x : X) → look xs n ≡ Some x → P x → Q (change x)) → AllByRecursion Q (map (at n change) xs)
+      → ((x : X) → look xs n ≡ Some x → P x → Q (change x)) → AllByRecursion Q (map (change_at n change) xs)
   each_at P Q n change [] rising all others changed = tt
   each_at P Q n change (x ∷ xs) rising all others changed = (
     by_number (nat_eq (number x) n) refl,
@@ -245,7 +245,7 @@ module _ {X : Type 0} (number : X → ℕ) where
     by_number false is = others x (λ e. eqb-false (number x) n is e) all.0
 
   -- what a change keeps of the item with the number it keeps of each
-  pub at_same : {Y : Type 0} (g : X → Y) (n : ℕ) (change : X → X) → ((x : X) → g (change x) ≡ g x) → (x : X) → g (at n change x) ≡ g x
+  pub at_same : {Y : Type 0} (g : X → Y) (n : ℕ) (change : X → X) → ((x : X) → g (change x) ≡ g x) → (x : X) → g (change_at n change x) ≡ g x
   at_same g n change same x = by_test (nat_eq (number x) n) where
     by_test : (b : Bool) → g (if b then change x else x) ≡ g x
     by_test true = same x

@@ -34,11 +34,11 @@ use Rattle.office_types.specs.Receivers.{if_active_machine, named_by, receiver_o
 use Rattle.office_types.specs.Records.{is_active, is_active_machine, record_of, with_actor}
 use Rattle.office_types.specs.Timers.{beside, has_id, with_scheduled, without_id}
 use Rattle.office_types.specs.ValidOffice.{AreOfOneId, IsGiven, is_init}
-use Rattle.office_types.proofs.ValidityListLemmas.{Pairs, at, at_same, each_filter, each_look, each_mono, each_passing, each_push, look_number, map_pairs, pairs_filter, pairs_push, sum_map_le, sum_push}
+use Rattle.office_types.proofs.ValidityListLemmas.{EachPair, change_at, at_same, each_filter, each_look, each_mono, each_passing, each_push, look_number, map_pairs, pairs_filter, pairs_push, sum_map_le, sum_push}
 use Rattle.office_types.proofs.ValidityTreeLemmas.{given_in, number_of, record_in, spawned_new, spawned_seen, within, within_is}
 use Rattle.office_types.proofs.ValidityStopLemmas.{bytes_same, parent_stays, stopped_seen}
-use Rattle.office_types.proofs.ValidityPartLemmas.{FitsTimer, Stands, running, runs, runs_from, timer_more}
-use Rattle.office_types.proofs.ValidityLemmas.{Kind, Sound}
+use Rattle.office_types.proofs.ValidityPartLemmas.{FitsTimer, RecordRules, running, runs_in, runs_from, timer_more}
+use Rattle.office_types.proofs.ValidityLemmas.{HasKind, SoundOffice}
 use Rattle.office_types.proofs.ValidityChangeLemmas.{Except, either_at, letter_sound, new_letter}
 use Rattle.office_types.proofs.ValidityActorLemmas.{fewer_timers_sound, spawn_sound, stop_sound, timers_sound}
 use Rattle.office_types.proofs.ValidityEventLemmas.{begins_none, init_begins}
@@ -48,13 +48,13 @@ use Rattle.office_types.proofs.ValidityDecisionLemmas.{begin_sound, runs_mail, u
 -- ---- kinds in the middle of a step
 
 -- the actor that takes its step: it has this own part, its children have these ids, and no letter begins it
-pub record Mid (own : Own) (ids : List (List ℕ)) (actor : ActorRecord) : Type 0 where
+pub record MidRecord (own : Own) (ids : List (List ℕ)) (actor : ActorRecord) : Type 0 where
   pub same : actor.own ≡ Some own
   pub no_item : actor.item ≡ None
   pub listed : map (λ (kid : List ℕ × ℕ). kid.0) actor.kids ≡ ids
   pub no_init : AllByRecursion (λ (letter : Letter). is_init letter ≡ false) actor.mailbox
 
-pub sound_kinds : (K K' : ActorRecord → Type 0) (callers : List Caller) (state : OfficeState) → ((a : ActorRecord) → K a → K' a) → Sound K callers state → Sound K' callers state
+pub sound_kinds : (K K' : ActorRecord → Type 0) (callers : List Caller) (state : OfficeState) → ((a : ActorRecord) → K a → K' a) → SoundOffice K callers state → SoundOffice K' callers state
 sound_kinds K K' callers state gives sound = record { counts = sound.counts; tree = sound.tree; parts = sound.parts; kinds = each_mono K K' state.actors gives sound.kinds }
 
 -- ---- timers
@@ -91,15 +91,15 @@ beside_each P timer timers all = by_id timer.id where
   by_id None = all
   by_id (Some id) = each_filter P (λ (other : Timer). not (has_id timer.owner id other)) timers all
 
-beside_pairs : (R : Timer → Timer → Type 0) (timer : Timer) (timers : List Timer) → Pairs R timers → Pairs R (beside timer timers)
+beside_pairs : (R : Timer → Timer → Type 0) (timer : Timer) (timers : List Timer) → EachPair R timers → EachPair R (beside timer timers)
 beside_pairs R timer timers pairs = by_id timer.id where
-  by_id : (o : Option (List ℕ)) → Pairs R (option_map_or (λ (id : List ℕ). without_id timer.owner id timers) o timers)
+  by_id : (o : Option (List ℕ)) → EachPair R (option_map_or (λ (id : List ℕ). without_id timer.owner id timers) o timers)
   by_id None = pairs
   by_id (Some id) = pairs_filter R (λ (other : Timer). not (has_id timer.owner id other)) timers pairs
 
 -- a new timer that fits
-pub scheduled_sound : (K : ActorRecord → Type 0) (callers : List Caller) (state : OfficeState) (timer : Timer) → Sound K callers state → has_timer_room state timer ≡ true → timer.order ≡ state.next_timer
-    → FitsTimer state.next_actor (state.next_timer + 1) state.actors timer → Sound K callers (with_timer state timer)
+pub scheduled_sound : (K : ActorRecord → Type 0) (callers : List Caller) (state : OfficeState) (timer : Timer) → SoundOffice K callers state → has_timer_room state timer ≡ true → timer.order ≡ state.next_timer
+    → FitsTimer state.next_actor (state.next_timer + 1) state.actors timer → SoundOffice K callers (with_timer state timer)
 scheduled_sound K callers state timer sound room order fits =
     let rooms = and_parts (nat_le (length (with_scheduled state.timers timer)) MAX_TIMERS) (nat_lt state.next_timer MAX_NEXT_NUMBER) room in
     let below_limit : state.next_timer < MAX_NEXT_NUMBER = ltb-true state.next_timer MAX_NEXT_NUMBER rooms.1 in
@@ -147,13 +147,13 @@ ids_left id (kid ∷ kids) = by_test (ids_left id kids) (not (bytes_eq kid.0 id)
 
 module _ (definitions : OfficeDefinitions) (linked : AreLinked definitions) (callers : List Caller) (n : ℕ) (own : Own) where
   abbrev pub MidKind : List (List ℕ) → ActorRecord → Type 0
-  MidKind ids = Except (Kind definitions) n (Mid own ids)
+  MidKind ids = Except (HasKind definitions) n (MidRecord own ids)
 
   -- in the middle of a step, with these ids of children
   pub record MidSound (ids : List (List ℕ)) (state : OfficeState) : Type 0 where
-    pub sound : Sound (MidKind ids) callers state
-    pub runner : runs state.actors n ≡ true
-    pub differ : Pairs (λ (a b : List ℕ). a ≢ b) ids
+    pub sound : SoundOffice (MidKind ids) callers state
+    pub runner : runs_in state.actors n ≡ true
+    pub differ : EachPair (λ (a b : List ℕ). a ≢ b) ids
 
   -- the same, of an effect that fits
   abbrev pub MidFits : List (List ℕ) → Fitted → Type 0
@@ -165,7 +165,7 @@ module _ (definitions : OfficeDefinitions) (linked : AreLinked definitions) (cal
     stepping_given = let runner = running state.actors n mid.runner in given_in state.next_actor state.actors mid.sound.tree n runner.0 runner.1
 
     -- a letter that begins none
-    mail_kind : (letter : Letter) (to : ℕ) → is_init letter ≡ false → runs state.actors to ≡ true → (a : ActorRecord) → record_in state.actors to ≡ Some a → MidKind ids a → MidKind ids (with_mail letter a)
+    mail_kind : (letter : Letter) (to : ℕ) → is_init letter ≡ false → runs_in state.actors to ≡ true → (a : ActorRecord) → record_in state.actors to ≡ Some a → MidKind ids a → MidKind ids (with_mail letter a)
     mail_kind letter to none runs_to a seen kind = record {
       other = λ differs. (
           let runner = running state.actors to runs_to in
@@ -177,13 +177,13 @@ module _ (definitions : OfficeDefinitions) (linked : AreLinked definitions) (cal
           record { same = before.same; no_item = before.no_item; listed = before.listed; no_init = each_push (λ (l : Letter). is_init l ≡ false) a.mailbox letter before.no_init none });
     }
 
-    receiver_runs : (target : To) (receiver : ℕ) → receiver_of state n target ≡ Some receiver → runs state.actors receiver ≡ true
+    receiver_runs : (target : To) (receiver : ℕ) → receiver_of state n target ≡ Some receiver → runs_in state.actors receiver ≡ true
     receiver_runs target receiver is = by_name (option_and_then (λ (actor : ActorRecord). named_by state actor target) (record_of state n)) is where
-      by_running : (m : ℕ) → (b : Bool) → is_active_machine state m ≡ b → (if b then Some m else None) ≡ Some receiver → runs state.actors receiver ≡ true
-      by_running m true runs_m is = (let same : m ≡ receiver = cc in ap (runs state.actors) (sym same) ∙ runs_m)
+      by_running : (m : ℕ) → (b : Bool) → is_active_machine state m ≡ b → (if b then Some m else None) ≡ Some receiver → runs_in state.actors receiver ≡ true
+      by_running m true runs_m is = (let same : m ≡ receiver = cc in ap (runs_in state.actors) (sym same) ∙ runs_m)
       by_running m false runs_m is = absurd (cc)
 
-      by_name : (o : Option ℕ) → option_and_then (if_active_machine state) o ≡ Some receiver → runs state.actors receiver ≡ true
+      by_name : (o : Option ℕ) → option_and_then (if_active_machine state) o ≡ Some receiver → runs_in state.actors receiver ≡ true
       by_name None is = absurd (cc)
       by_name (Some m) is = by_running m (is_active_machine state m) refl is
 
@@ -195,7 +195,7 @@ module _ (definitions : OfficeDefinitions) (linked : AreLinked definitions) (cal
 
     sent_fits : (target : To) (event : Value) → IsSent event → MidFits ids (after_send n target event state)
     sent_fits target event sent = by_receiver (receiver_of state n target) refl where
-      by_room : (receiver : ℕ) → runs state.actors receiver ≡ true → (b : Bool) → has_letter_room state 1 ≡ b → MidFits ids (if b then Ok (with_letter state (origin.Actor n) receiver event) else Err LettersFull)
+      by_room : (receiver : ℕ) → runs_in state.actors receiver ≡ true → (b : Bool) → has_letter_room state 1 ≡ b → MidFits ids (if b then Ok (with_letter state (origin.Actor n) receiver event) else Err LettersFull)
       by_room receiver runs_to true room = record {
         sound = letter_sound (MidKind ids) (MidKind ids) callers state (origin.Actor n) receiver event mid.sound room stepping_given sent.well_formed runs_to (λ a differs kind. kind)
             (mail_kind (new_letter state (origin.Actor n) event) receiver (sent_begins_none event sent) runs_to);
@@ -210,7 +210,7 @@ module _ (definitions : OfficeDefinitions) (linked : AreLinked definitions) (cal
 
     scheduled_fits : (id : Option (List ℕ)) (delay : ℕ) (target : To) (event : Value) → IfSome id (λ id. IsTrue (is_name id)) → IsTimed event → MidFits ids (after_schedule n id delay target event state)
     scheduled_fits id delay target event named timed = by_receiver (receiver_of state n target) refl where
-      by_room : (receiver : ℕ) → runs state.actors receiver ≡ true → (b : Bool) → has_timer_room state (timer_now state n id delay event receiver) ≡ b
+      by_room : (receiver : ℕ) → runs_in state.actors receiver ≡ true → (b : Bool) → has_timer_room state (timer_now state n id delay event receiver) ≡ b
           → MidFits ids (if b then Ok (with_timer state (timer_now state n id delay event receiver)) else Err TimersFull)
       by_room receiver runs_to true room =
           let target_record = running state.actors receiver runs_to in
@@ -249,8 +249,8 @@ module _ (definitions : OfficeDefinitions) (linked : AreLinked definitions) (cal
     grown id fresh = with_actor (with_record state fresh) n (with_kid id state.next_actor)
 
     grown_sound : (id : List ℕ) (fresh : ActorRecord) → has_actor_room state ≡ true → is_name_held state fresh.system ≡ false → has_level_below state n ≡ true
-        → fresh.number ≡ state.next_actor → fresh.kids ≡ [] → fresh.parent ≡ Some n → fresh.mailbox ≡ [] → Stands fresh
-        → Sound (Except (MidKind (ids ++ id ∷ [])) state.next_actor (λ a. a ≡ fresh)) callers (grown id fresh)
+        → fresh.number ≡ state.next_actor → fresh.kids ≡ [] → fresh.parent ≡ Some n → fresh.mailbox ≡ [] → RecordRules fresh
+        → SoundOffice (Except (MidKind (ids ++ id ∷ [])) state.next_actor (λ a. a ≡ fresh)) callers (grown id fresh)
     grown_sound id fresh room free level fresh_number fresh_kids fresh_parent empty stands =
         spawn_sound (MidKind ids) (MidKind (ids ++ id ∷ [])) callers state n id fresh mid.sound room free (sym (within_is state 15 n) ∙ level) mid.runner fresh_number fresh_kids fresh_parent empty stands
         (λ a differs kind. record { other = kind.other; one = λ same. absurd (differs same) })
@@ -271,10 +271,10 @@ module _ (definitions : OfficeDefinitions) (linked : AreLinked definitions) (cal
         let runner = running state.actors n mid.runner in
         spawned_new state.next_actor state.actors mid.sound.tree mid.sound.counts.actor.numbered n runner.0 id fresh runner.1 runner.2 fresh_number fresh_kids fresh_parent
 
-    grown_runs : (id : List ℕ) (fresh : ActorRecord) → fresh.number ≡ state.next_actor → fresh.kids ≡ [] → fresh.parent ≡ Some n → runs (grown id fresh).actors n ≡ true
+    grown_runs : (id : List ℕ) (fresh : ActorRecord) → fresh.number ≡ state.next_actor → fresh.kids ≡ [] → fresh.parent ≡ Some n → runs_in (grown id fresh).actors n ≡ true
     grown_runs id fresh fresh_number fresh_kids fresh_parent =
         let runner = running state.actors n mid.runner in
-        let adopt : ActorRecord → ActorRecord = at number_of n (with_kid id state.next_actor) in
+        let adopt : ActorRecord → ActorRecord = change_at number_of n (with_kid id state.next_actor) in
         runs_from (grown id fresh).actors n (adopt runner.0)
         (spawned_seen state.next_actor state.actors mid.sound.tree mid.sound.counts.actor.numbered n runner.0 id fresh runner.1 runner.2 fresh_number fresh_kids fresh_parent n runner.0 runner.1)
         (at_same number_of is_active n (with_kid id state.next_actor) (λ a. refl) runner.0 ∙ runner.2)
@@ -285,26 +285,26 @@ module _ (definitions : OfficeDefinitions) (linked : AreLinked definitions) (cal
         let rooms = room_of state 1 room in
         let pushed = sum_push (λ (a : ActorRecord). length a.mailbox) state.actors fresh in
         let none : length fresh.mailbox ≡ 0 = ap length empty in
-        let same = sum_map_le (λ (a : ActorRecord). length a.mailbox) (at number_of n (with_kid id state.next_actor)) (state.actors ++ fresh ∷ [])
+        let same = sum_map_le (λ (a : ActorRecord). length a.mailbox) (change_at number_of n (with_kid id state.next_actor)) (state.actors ++ fresh ∷ [])
         (λ a. either_at (λ (z : ActorRecord). length z.mailbox ≤ length a.mailbox) n (with_kid id state.next_actor) a (omega arith) (omega arith)) in
         room_from (grown id fresh) 1 (omega (arith, rooms.0)) rooms.1
 
     -- a letter and a child of two records, in either order
     kid_and_mail : (id : List ℕ) (m : ℕ) (letter : Letter) (actors : List ActorRecord)
-        → map (at number_of n (with_kid id m)) (map (at number_of m (with_mail letter)) actors) ≡ map (at number_of m (with_mail letter)) (map (at number_of n (with_kid id m)) actors)
+        → map (change_at number_of n (with_kid id m)) (map (change_at number_of m (with_mail letter)) actors) ≡ map (change_at number_of m (with_mail letter)) (map (change_at number_of n (with_kid id m)) actors)
     kid_and_mail id m letter [] = refl
     kid_and_mail id m letter (a ∷ actors) =
-        ap (λ (z : ActorRecord). z ∷ map (at number_of n (with_kid id m)) (map (at number_of m (with_mail letter)) actors)) (by_mail (nat_eq a.number m) refl)
-        ∙ ap (λ (others : List ActorRecord). at number_of m (with_mail letter) (at number_of n (with_kid id m) a) ∷ others) (kid_and_mail id m letter actors) where
-          with_it : (c : Bool) → nat_eq a.number m ≡ true → (if c then with_kid id m (with_mail letter a) else with_mail letter a) ≡ at number_of m (with_mail letter) (if c then with_kid id m a else a)
+        ap (λ (z : ActorRecord). z ∷ map (change_at number_of n (with_kid id m)) (map (change_at number_of m (with_mail letter)) actors)) (by_mail (nat_eq a.number m) refl)
+        ∙ ap (λ (others : List ActorRecord). change_at number_of m (with_mail letter) (change_at number_of n (with_kid id m) a) ∷ others) (kid_and_mail id m letter actors) where
+          with_it : (c : Bool) → nat_eq a.number m ≡ true → (if c then with_kid id m (with_mail letter a) else with_mail letter a) ≡ change_at number_of m (with_mail letter) (if c then with_kid id m a else a)
           with_it true is = sym (ap (λ (b : Bool). if b then with_mail letter (with_kid id m a) else with_kid id m a) is)
           with_it false is = sym (ap (λ (b : Bool). if b then with_mail letter a else a) is)
 
-          without_it : (c : Bool) → nat_eq a.number m ≡ false → (if c then with_kid id m a else a) ≡ at number_of m (with_mail letter) (if c then with_kid id m a else a)
+          without_it : (c : Bool) → nat_eq a.number m ≡ false → (if c then with_kid id m a else a) ≡ change_at number_of m (with_mail letter) (if c then with_kid id m a else a)
           without_it true is = sym (ap (λ (b : Bool). if b then with_mail letter (with_kid id m a) else with_kid id m a) is)
           without_it false is = sym (ap (λ (b : Bool). if b then with_mail letter a else a) is)
 
-          by_mail : (b : Bool) → nat_eq a.number m ≡ b → at number_of n (with_kid id m) (if b then with_mail letter a else a) ≡ at number_of m (with_mail letter) (at number_of n (with_kid id m) a)
+          by_mail : (b : Bool) → nat_eq a.number m ≡ b → change_at number_of n (with_kid id m) (if b then with_mail letter a else a) ≡ change_at number_of m (with_mail letter) (change_at number_of n (with_kid id m) a)
           by_mail true is = with_it (nat_eq a.number n) is
           by_mail false is = without_it (nat_eq a.number n) is
 
@@ -315,7 +315,7 @@ module _ (definitions : OfficeDefinitions) (linked : AreLinked definitions) (cal
         let fresh : ActorRecord = fresh_record state.next_actor (Some n) system (Some (fresh_own machine)) None in
         let letter : Letter = new_letter (with_record state fresh) (origin.Actor n) (init_event input) in
         let given : IsGiven state.next_actor n = stepping_given in
-        let sound : Sound (MidKind (ids ++ id ∷ [])) callers (with_letter (grown id fresh) (origin.Actor n) state.next_actor (init_event input)) =
+        let sound : SoundOffice (MidKind (ids ++ id ∷ [])) callers (with_letter (grown id fresh) (origin.Actor n) state.next_actor (init_event input)) =
         begin_sound (MidKind (ids ++ id ∷ [])) callers (grown id fresh) state.next_actor fresh (origin.Actor n) input
         (grown_sound id fresh room free level refl refl refl refl (stands_fresh state.next_actor (Some n) system (Some (fresh_own machine)) None named))
         (grown_seen id fresh refl refl refl) refl refl (given.0, omega (arith, given.1)) short (grown_room id fresh refl letters)
@@ -323,8 +323,8 @@ module _ (definitions : OfficeDefinitions) (linked : AreLinked definitions) (cal
         let same : with_letter (grown id fresh) (origin.Actor n) state.next_actor (init_event input) ≡ with_actor (with_machine state (origin.Actor n) (Some n) machine input system) n (with_kid id state.next_actor) =
         ap (λ (actors : List ActorRecord). record (with_record state fresh) { actors = actors; next_letter = state.next_letter + 1 }) (sym (kid_and_mail id state.next_actor letter (state.actors ++ fresh ∷ []))) in
         record {
-          sound = subst (Sound (MidKind (ids ++ id ∷ [])) callers) same sound;
-          runner = subst (λ (after : OfficeState). runs after.actors n ≡ true) same (runs_mail letter (grown id fresh).actors state.next_actor n ∙ grown_runs id fresh refl refl refl);
+          sound = subst (SoundOffice (MidKind (ids ++ id ∷ [])) callers) same sound;
+          runner = subst (λ (after : OfficeState). runs_in after.actors n ≡ true) same (runs_mail letter (grown id fresh).actors state.next_actor n ∙ grown_runs id fresh refl refl refl);
           differ = pairs_push (λ (a b : List ℕ). a ≢ b) ids id mid.differ (free_id id free_ids);
         }
 
@@ -395,8 +395,8 @@ module _ (definitions : OfficeDefinitions) (linked : AreLinked definitions) (cal
         let at_n : runner.0.number ≡ n = look_number number_of state.actors n runner.0 runner.1 in
         let before = (each_look number_of (MidKind ids) state.actors mid.sound.kinds n runner.0 runner.1).one at_n in
         let found = found_among id runner.0.kids (ap (list_any (bytes_eq id)) before.listed ∙ held) in
-        let differ : Pairs (λ (a b : List ℕ × ℕ). a.0 ≢ b.0) runner.0.kids =
-        map_pairs (λ (a b : List ℕ). a ≢ b) (λ (kid : List ℕ × ℕ). kid.0) runner.0.kids (subst (Pairs (λ (a b : List ℕ). a ≢ b)) (sym before.listed) mid.differ) in
+        let differ : EachPair (λ (a b : List ℕ × ℕ). a.0 ≢ b.0) runner.0.kids =
+        map_pairs (λ (a b : List ℕ). a ≢ b) (λ (kid : List ℕ × ℕ). kid.0) runner.0.kids (subst (EachPair (λ (a b : List ℕ). a ≢ b)) (sym before.listed) mid.differ) in
         let child : child_of state n id ≡ Some found.0 = ap (option_and_then (λ (actor : ActorRecord). lookup (bytes_eq id) actor.kids)) runner.1 ∙ found.1 in
         let left : List (List ℕ) = filter (λ (other : List ℕ). not (bytes_eq other id)) ids in
         let stopped : MidSound left (with_actor (removed found.0 state) n (without_kid id)) = record {
@@ -408,7 +408,7 @@ module _ (definitions : OfficeDefinitions) (linked : AreLinked definitions) (cal
                     let was = kind.one is in
                     record { same = was.same; no_item = was.no_item; listed = ids_left id a.kids ∙ ap (filter (λ (other : List ℕ). not (bytes_eq other id))) was.listed; no_init = was.no_init });
               });
-          runner = runs_from (with_actor (removed found.0 state) n (without_kid id)).actors n (at number_of n (without_kid id) runner.0)
+          runner = runs_from (with_actor (removed found.0 state) n (without_kid id)).actors n (change_at number_of n (without_kid id) runner.0)
               (stopped_seen state.next_actor state.actors mid.sound.tree n runner.0 id found.0 runner.1 differ found.1 n runner.0 runner.1
               (parent_stays state.next_actor state.actors mid.sound.tree n runner.0 id found.0 runner.1 differ found.1))
               (at_same number_of is_active n (without_kid id) (λ a. refl) runner.0 ∙ runner.2)

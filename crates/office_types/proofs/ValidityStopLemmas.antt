@@ -13,8 +13,8 @@ use Rattle.office_types.specs.Effects.{without_kid}
 use Rattle.office_types.specs.Ends.{is_among}
 use Rattle.office_types.specs.Records.{is_active}
 use Rattle.office_types.specs.ValidOffice.{IsGiven, is_kid}
-use Rattle.office_types.proofs.ValidityListLemmas.{Pairs, at, at_number, at_same, count_passing, none_counted, each_both, each_filter, each_map, each_mono, each_passing, look_filter, look_map, look_number, pairs_filter, rises_at}
-use Rattle.office_types.proofs.ValidityTreeLemmas.{Child, Tree, among_itself, among_one, below, below_cases, below_closed, below_found, below_from, chained, mapped, number_of, parent_in, parent_smaller, parents_smaller, record_in, within_same}
+use Rattle.office_types.proofs.ValidityListLemmas.{EachPair, change_at, at_number, at_same, count_passing, none_counted, each_both, each_filter, each_map, each_mono, each_passing, look_filter, look_map, look_number, pairs_filter, rises_at}
+use Rattle.office_types.proofs.ValidityTreeLemmas.{ChildIn, ActorTree, among_itself, among_one, all_below, below_cases, below_closed, below_found, below_from, chained, mapped, number_of, parent_in, parent_smaller, parents_smaller, record_in, within_same}
 
 -- ---- bytes
 
@@ -36,7 +36,7 @@ found_kid P id x (kid ∷ kids) all found = by_test (found_kid P id x kids all.1
   by_test rest false is found = rest found
 
 -- where ids differ, whoever has the id is the child that it finds
-pub only_kid : (id : List ℕ) (x : ℕ) (kids : List (List ℕ × ℕ)) → Pairs (λ (a b : List ℕ × ℕ). a.0 ≢ b.0) kids → lookup (bytes_eq id) kids ≡ Some x
+pub only_kid : (id : List ℕ) (x : ℕ) (kids : List (List ℕ × ℕ)) → EachPair (λ (a b : List ℕ × ℕ). a.0 ≢ b.0) kids → lookup (bytes_eq id) kids ≡ Some x
     → AllByRecursion (λ (kid : List ℕ × ℕ). bytes_eq kid.0 id ≡ true → kid.1 ≡ x) kids
 only_kid id x [] differ found = tt
 only_kid id x (kid ∷ kids) differ found = by_test (only_kid id x kids differ.1) (bytes_eq id kid.0) refl found where
@@ -80,16 +80,16 @@ only_id id x (kid ∷ kids) once found =
 
 -- ---- the tree without the child
 
-module _ (next : ℕ) (actors : List ActorRecord) (tree : Tree next actors) (n : ℕ) (parent : ActorRecord) (id : List ℕ) (x : ℕ) (seen : record_in actors n ≡ Some parent)
-    (differ : Pairs (λ (a b : List ℕ × ℕ). a.0 ≢ b.0) parent.kids) (found : lookup (bytes_eq id) parent.kids ≡ Some x) where
+module _ (next : ℕ) (actors : List ActorRecord) (tree : ActorTree next actors) (n : ℕ) (parent : ActorRecord) (id : List ℕ) (x : ℕ) (seen : record_in actors n ≡ Some parent)
+    (differ : EachPair (λ (a b : List ℕ × ℕ). a.0 ≢ b.0) parent.kids) (found : lookup (bytes_eq id) parent.kids ≡ Some x) where
   abbrev gone : List ℕ
-  gone = below actors (x ∷ [])
+  gone = all_below actors (x ∷ [])
 
   abbrev stays : ℕ → Bool
   stays m = not (is_among gone m)
 
   abbrev release : ActorRecord → ActorRecord
-  release = at number_of n (without_kid id)
+  release = change_at number_of n (without_kid id)
 
   abbrev pub without_child_in : List ActorRecord
   without_child_in = map release (filter (λ (actor : ActorRecord). not (is_among gone actor.number)) actors)
@@ -210,7 +210,7 @@ module _ (next : ℕ) (actors : List ActorRecord) (tree : Tree next actors) (n :
         eqb-false a.number n is (look_number number_of actors m a there ∙ sym same)))) ∙ up)
         (tree.kids m a there)
 
-  above : (m : ℕ) (a : ActorRecord) (p : ℕ) → record_in actors m ≡ Some a → is_among gone m ≡ false → a.parent ≡ Some p → Child without_child_in (release a) p
+  above : (m : ℕ) (a : ActorRecord) (p : ℕ) → record_in actors m ≡ Some a → is_among gone m ≡ false → a.parent ≡ Some p → ChildIn without_child_in (release a) p
   above m a p there kept up =
       let child = tree.parents m a p there up in
       let at_m : a.number ≡ m = look_number number_of actors m a there in
@@ -223,7 +223,7 @@ module _ (next : ℕ) (actors : List ActorRecord) (tree : Tree next actors) (n :
       }
 
   -- what is left is a tree
-  pub tree_stop : Tree next without_child_in
+  pub tree_stop : ActorTree next without_child_in
   tree_stop = record {
     rise = rises_at number_of n (without_kid id) (filter (λ (actor : ActorRecord). not (is_among gone actor.number)) actors) (λ z. refl)
         (pairs_filter (λ (y z : ActorRecord). y.number < z.number) (λ (actor : ActorRecord). not (is_among gone actor.number)) actors tree.rise);
@@ -233,7 +233,7 @@ module _ (next : ℕ) (actors : List ActorRecord) (tree : Tree next actors) (n :
         (each_filter (λ (z : ActorRecord). IsGiven next z.number) (λ (actor : ActorRecord). not (is_among gone actor.number)) actors tree.given));
     parents = λ m b p there up. (
         let before = stopped_cases m b there in
-        subst (λ (z : ActorRecord). Child without_child_in z p) before.3 (above m before.0 p before.1 before.2 (sym (same_parent before.0) ∙ ap (λ (z : ActorRecord). z.parent) before.3 ∙ up)));
+        subst (λ (z : ActorRecord). ChildIn without_child_in z p) before.3 (above m before.0 p before.1 before.2 (sym (same_parent before.0) ∙ ap (λ (z : ActorRecord). z.parent) before.3 ∙ up)));
     kids = λ m b there. (
         let before = stopped_cases m b there in
         subst (λ (z : ActorRecord). AllByRecursion (λ (kid : List ℕ × ℕ). parent_in without_child_in kid.1 ≡ Some m) z.kids) before.3 (kids_stay m before.0 before.1 before.2));

@@ -11,7 +11,7 @@ use Rattle.office_types.specs.Effects.{is_within_levels, with_kid}
 use Rattle.office_types.specs.Ends.{has_parent_among, is_among, subtree_of}
 use Rattle.office_types.specs.Records.{is_active}
 use Rattle.office_types.specs.ValidOffice.{IsGiven, is_kid}
-use Rattle.office_types.proofs.ValidityListLemmas.{Rises, at, at_number, at_same, count_none, each_look, each_map, each_mono, each_push, look, look_each, look_map, look_none, look_number, look_push, pairs_map, pairs_push, rises_at}
+use Rattle.office_types.proofs.ValidityListLemmas.{Rises, change_at, at_number, at_same, count_none, each_look, each_map, each_mono, each_push, look, look_each, look_map, look_none, look_number, look_push, pairs_map, pairs_push, rises_at}
 
 -- ---- records by their numbers
 
@@ -71,10 +71,10 @@ abbrev pub add_below : List ℕ → ActorRecord → List ℕ
 add_below found actor = if has_parent_among found actor then found ++ actor.number ∷ [] else found
 
 -- those found, and all below them
-abbrev pub below : List ActorRecord → List ℕ → List ℕ
-below actors found = fold add_below found actors
+abbrev pub all_below : List ActorRecord → List ℕ → List ℕ
+all_below actors found = fold add_below found actors
 
-pub subtree_is : (state : OfficeState) (n : ℕ) → subtree_of state n ≡ below state.actors (n ∷ [])
+pub subtree_is : (state : OfficeState) (n : ℕ) → subtree_of state n ≡ all_below state.actors (n ∷ [])
 unfolding subtree_of
 subtree_is state n = refl
 
@@ -111,7 +111,7 @@ among_added found actor n is = by_test (has_parent_among found actor) refl is wh
   by_test true child is = by_part (is_among found n) refl (sym (among_push found actor.number n) ∙ is) child
   by_test false child is = inl is
 
-pub below_found : (actors : List ActorRecord) (found : List ℕ) (n : ℕ) → is_among found n ≡ true → is_among (below actors found) n ≡ true
+pub below_found : (actors : List ActorRecord) (found : List ℕ) (n : ℕ) → is_among found n ≡ true → is_among (all_below actors found) n ≡ true
 below_found [] found n is = is
 below_found (actor ∷ actors) found n is = below_found actors (add_below found actor) n (among_add found actor n is)
 
@@ -129,7 +129,7 @@ abbrev pub HasParentAmong : List ActorRecord → List ℕ → ℕ → Type 0
 HasParentAmong actors found n = (actor : ActorRecord) × (p : ℕ) × (record_in actors n ≡ Some actor) × (actor.parent ≡ Some p) × (is_among found p ≡ true)
 
 -- whoever stands below was found at first, or its parent stands below
-pub below_cases : (actors : List ActorRecord) (found : List ℕ) (n : ℕ) → Rises number_of actors → is_among (below actors found) n ≡ true → (is_among found n ≡ true) ⊎ HasParentAmong actors (below actors found) n
+pub below_cases : (actors : List ActorRecord) (found : List ℕ) (n : ℕ) → Rises number_of actors → is_among (all_below actors found) n ≡ true → (is_among found n ≡ true) ⊎ HasParentAmong actors (all_below actors found) n
 below_cases [] found n rising is = inl is
 below_cases (actor ∷ actors) found n rising is =
     elim (below_cases actors (add_below found actor) n rising.1 is) [
@@ -147,11 +147,11 @@ below_cases (actor ∷ actors) found n rising is =
 
 -- whoever has its parent below stands below
 pub below_closed : (actors : List ActorRecord) (found : List ℕ) (n p : ℕ) (a : ActorRecord) → Rises number_of actors → AllByRecursion ParentIsSmaller actors
-    → record_in actors n ≡ Some a → a.parent ≡ Some p → is_among (below actors found) p ≡ true → is_among (below actors found) n ≡ true
+    → record_in actors n ≡ Some a → a.parent ≡ Some p → is_among (all_below actors found) p ≡ true → is_among (all_below actors found) n ≡ true
 below_closed [] found n p a rising smaller seen parent is = absurd (cc)
 below_closed (actor ∷ actors) found n p a rising smaller seen parent is =
     by_number (below_closed actors (add_below found actor) n p a rising.1 smaller.1) (nat_eq actor.number n) refl seen where
-      first : actor ≡ a → actor.number ≡ n → is_among (add_below found actor) p ≡ true → is_among (below actors (add_below found actor)) n ≡ true
+      first : actor ≡ a → actor.number ≡ n → is_among (add_below found actor) p ≡ true → is_among (all_below actors (add_below found actor)) n ≡ true
       first same number is =
           let its_parent : actor.parent ≡ Some p = ap (λ (z : ActorRecord). z.parent) same ∙ parent in
           elim (among_added found actor p is) [
@@ -164,8 +164,8 @@ below_closed (actor ∷ actors) found n p a rising smaller seen parent is =
             either true e = refl
             either false e = e
 
-      by_number : (record_in actors n ≡ Some a → a.parent ≡ Some p → is_among (below actors (add_below found actor)) p ≡ true → is_among (below actors (add_below found actor)) n ≡ true)
-          → (b : Bool) → nat_eq actor.number n ≡ b → cond b (Some actor) (record_in actors n) ≡ Some a → is_among (below actors (add_below found actor)) n ≡ true
+      by_number : (record_in actors n ≡ Some a → a.parent ≡ Some p → is_among (all_below actors (add_below found actor)) p ≡ true → is_among (all_below actors (add_below found actor)) n ≡ true)
+          → (b : Bool) → nat_eq actor.number n ≡ b → cond b (Some actor) (record_in actors n) ≡ Some a → is_among (all_below actors (add_below found actor)) n ≡ true
       by_number rest false number seen = rest seen parent is
       by_number rest true number seen =
           let same : actor ≡ a = cc in
@@ -180,7 +180,7 @@ below_closed (actor ∷ actors) found n p a rising smaller seen parent is =
           ]
 
 -- all that stand below have numbers from the least one on
-pub below_from : (actors : List ActorRecord) (found : List ℕ) (least : ℕ) → AllByRecursion ParentIsSmaller actors → ((n : ℕ) → is_among found n ≡ true → least ≤ n) → (n : ℕ) → is_among (below actors found) n ≡ true → least ≤ n
+pub below_from : (actors : List ActorRecord) (found : List ℕ) (least : ℕ) → AllByRecursion ParentIsSmaller actors → ((n : ℕ) → is_among found n ≡ true → least ≤ n) → (n : ℕ) → is_among (all_below actors found) n ≡ true → least ≤ n
 below_from [] found least smaller from n is = from n is
 below_from (actor ∷ actors) found least smaller from n is =
     below_from actors (add_below found actor) least smaller.1 (λ m is. elim (among_added found actor m is) [
@@ -196,7 +196,7 @@ below_from (actor ∷ actors) found least smaller from n is =
 -- ---- trees of actors
 
 -- a parent has a record and a smaller number, lists the child once, and is active if the child is
-pub record Child (actors : List ActorRecord) (actor : ActorRecord) (p : ℕ) : Type 0 where
+pub record ChildIn (actors : List ActorRecord) (actor : ActorRecord) (p : ℕ) : Type 0 where
   pub above : ActorRecord
   pub seen : record_in actors p ≡ Some above
   pub smaller : p < actor.number
@@ -204,14 +204,14 @@ pub record Child (actors : List ActorRecord) (actor : ActorRecord) (p : ℕ) : T
   pub active : is_active actor ≡ true → is_active above ≡ true
 
 -- the records are by number, and parents and children fit each other
-pub record Tree (next : ℕ) (actors : List ActorRecord) : Type 0 where
+pub record ActorTree (next : ℕ) (actors : List ActorRecord) : Type 0 where
   pub rise : Rises number_of actors
   pub given : AllByRecursion (λ (actor : ActorRecord). IsGiven next actor.number) actors
-  pub parents : (n : ℕ) (a : ActorRecord) (p : ℕ) → record_in actors n ≡ Some a → a.parent ≡ Some p → Child actors a p
+  pub parents : (n : ℕ) (a : ActorRecord) (p : ℕ) → record_in actors n ≡ Some a → a.parent ≡ Some p → ChildIn actors a p
   pub kids : (n : ℕ) (a : ActorRecord) → record_in actors n ≡ Some a → AllByRecursion (λ (kid : List ℕ × ℕ). parent_in actors kid.1 ≡ Some n) a.kids
   pub levels : (n : ℕ) (a : ActorRecord) → record_in actors n ≡ Some a → within actors 16 n ≡ true
 
-module _ (next : ℕ) (actors : List ActorRecord) (tree : Tree next actors) where
+module _ (next : ℕ) (actors : List ActorRecord) (tree : ActorTree next actors) where
   pub parents_smaller : AllByRecursion ParentIsSmaller actors
   parents_smaller = look_each number_of ParentIsSmaller actors tree.rise (λ n a seen p is. (tree.parents n a p seen is).smaller)
 
@@ -241,13 +241,13 @@ module _ (next : ℕ) (actors : List ActorRecord) (tree : Tree next actors) wher
     seen_map : (n : ℕ) (b : ActorRecord) → record_in (map f actors) n ≡ Some b → (a : ActorRecord) × (record_in actors n ≡ Some a) × (f a ≡ b)
     seen_map n b seen = mapped f (record_in actors n) b (sym (look_map number_of f same_number actors n) ∙ seen)
 
-    pub tree_map : Tree next (map f actors)
+    pub tree_map : ActorTree next (map f actors)
     tree_map = record {
       rise = pairs_map (λ (x y : ActorRecord). x.number < y.number) (λ (x y : ActorRecord). x.number < y.number) f actors (λ x y less. omega (arith, same_number x, same_number y)) tree.rise;
       given = each_map (λ (z : ActorRecord). IsGiven next z.number) f actors (each_mono (λ (z : ActorRecord). IsGiven next z.number) (λ (z : ActorRecord). IsGiven next (f z).number) actors (λ z given. (omega (arith, given.0, same_number z), omega (arith, given.1, same_number z))) tree.given);
       parents = λ n b p seen parent. (
           let before = seen_map n b seen in
-          subst (λ (z : ActorRecord). Child (map f actors) z p) before.2 (above n before.0 p before.1 (sym (same_parent before.0) ∙ ap (λ (z : ActorRecord). z.parent) before.2 ∙ parent)));
+          subst (λ (z : ActorRecord). ChildIn (map f actors) z p) before.2 (above n before.0 p before.1 (sym (same_parent before.0) ∙ ap (λ (z : ActorRecord). z.parent) before.2 ∙ parent)));
       kids = λ n b seen. (
           let before = seen_map n b seen in
           let fits : AllByRecursion (λ (kid : List ℕ × ℕ). parent_in (map f actors) kid.1 ≡ Some n) before.0.kids =
@@ -257,7 +257,7 @@ module _ (next : ℕ) (actors : List ActorRecord) (tree : Tree next actors) wher
           let before = seen_map n b seen in
           within_same (λ m. ⊤) actors (map f actors) (λ m p is e. tt) (λ m is. parent_map m) 16 n tt ∙ tree.levels n before.0 before.1);
     } where
-      above : (n : ℕ) (a : ActorRecord) (p : ℕ) → record_in actors n ≡ Some a → a.parent ≡ Some p → Child (map f actors) (f a) p
+      above : (n : ℕ) (a : ActorRecord) (p : ℕ) → record_in actors n ≡ Some a → a.parent ≡ Some p → ChildIn (map f actors) (f a) p
       above n a p seen parent =
           let child = tree.parents n a p seen parent in
           record {
@@ -270,7 +270,7 @@ module _ (next : ℕ) (actors : List ActorRecord) (tree : Tree next actors) wher
 
 -- ---- one actor more
 
-module _ (next : ℕ) (actors : List ActorRecord) (tree : Tree next actors) (numbered : 0 < next) (f : ActorRecord → ActorRecord) (fresh : ActorRecord) (others : List ActorRecord)
+module _ (next : ℕ) (actors : List ActorRecord) (tree : ActorTree next actors) (numbered : 0 < next) (f : ActorRecord → ActorRecord) (fresh : ActorRecord) (others : List ActorRecord)
     (same_number : (a : ActorRecord) → (f a).number ≡ a.number) (same_parent : (a : ActorRecord) → (f a).parent ≡ a.parent) (same_active : (a : ActorRecord) → is_active (f a) ≡ is_active a)
     (fresh_number : fresh.number ≡ next) (fresh_kids : fresh.kids ≡ []) (same_fresh : f fresh ≡ fresh)
     (looks : (m : ℕ) → record_in others m ≡ option_map f (option_or (record_in actors m) (record_in (fresh ∷ []) m)))
@@ -307,7 +307,7 @@ module _ (next : ℕ) (actors : List ActorRecord) (tree : Tree next actors) (num
   grown_within levels m small =
       within_same (λ (k : ℕ). k < next) actors others (λ k p small is. (let less : p < k = parent_smaller next actors tree k p is in omega arith)) grown_parent levels m small
 
-  pub tree_grow : Rises number_of others → ((p : ℕ) → fresh.parent ≡ Some p → Child others fresh p) → within others 16 next ≡ true → Tree (next + 1) others
+  pub tree_grow : Rises number_of others → ((p : ℕ) → fresh.parent ≡ Some p → ChildIn others fresh p) → within others 16 next ≡ true → ActorTree (next + 1) others
   tree_grow rising fresh_child level = record {
     rise = rising;
     given = look_each number_of (λ (z : ActorRecord). IsGiven (next + 1) z.number) others rising (λ m b seen. elim (grown_cases m b seen) [
@@ -318,8 +318,8 @@ module _ (next : ℕ) (actors : List ActorRecord) (tree : Tree next actors) (num
       | inr (at_next, same) ↦ (let at_m : b.number ≡ m = look_number number_of others m b seen in (omega arith, omega arith))
     ]);
     parents = λ m b p seen parent. elim (grown_cases m b seen) [
-      | inl (a, before, same) ↦ subst (λ (z : ActorRecord). Child others z p) same (above m a p before (sym (same_parent a) ∙ ap (λ (z : ActorRecord). z.parent) same ∙ parent))
-      | inr (at_next, same) ↦ subst (λ (z : ActorRecord). Child others z p) same (fresh_child p (ap (λ (z : ActorRecord). z.parent) same ∙ parent))
+      | inl (a, before, same) ↦ subst (λ (z : ActorRecord). ChildIn others z p) same (above m a p before (sym (same_parent a) ∙ ap (λ (z : ActorRecord). z.parent) same ∙ parent))
+      | inr (at_next, same) ↦ subst (λ (z : ActorRecord). ChildIn others z p) same (fresh_child p (ap (λ (z : ActorRecord). z.parent) same ∙ parent))
     ];
     kids = λ m b seen. elim (grown_cases m b seen) [
       | inl (a, before, same) ↦ subst (λ (z : ActorRecord). AllByRecursion (λ (kid : List ℕ × ℕ). parent_in others kid.1 ≡ Some m) z.kids) same (below_it m a before)
@@ -330,7 +330,7 @@ module _ (next : ℕ) (actors : List ActorRecord) (tree : Tree next actors) (num
       | inr (at_next, same) ↦ ap (within others 16) at_next ∙ level
     ];
   } where
-    above : (m : ℕ) (a : ActorRecord) (p : ℕ) → record_in actors m ≡ Some a → a.parent ≡ Some p → Child others (f a) p
+    above : (m : ℕ) (a : ActorRecord) (p : ℕ) → record_in actors m ≡ Some a → a.parent ≡ Some p → ChildIn others (f a) p
     above m a p seen parent =
         let child = tree.parents m a p seen parent in
         let given : IsGiven next m = given_in next actors tree m a seen in
@@ -358,7 +358,7 @@ mapped_itself None = refl
 mapped_itself (Some x) = refl
 
 -- an actor without a parent
-pub tree_start : (next : ℕ) (actors : List ActorRecord) → Tree next actors → 0 < next → (fresh : ActorRecord) → fresh.number ≡ next → fresh.kids ≡ [] → fresh.parent ≡ None → Tree (next + 1) (actors ++ fresh ∷ [])
+pub tree_start : (next : ℕ) (actors : List ActorRecord) → ActorTree next actors → 0 < next → (fresh : ActorRecord) → fresh.number ≡ next → fresh.kids ≡ [] → fresh.parent ≡ None → ActorTree (next + 1) (actors ++ fresh ∷ [])
 tree_start next actors tree numbered fresh fresh_number fresh_kids no_parent =
     let looks : (m : ℕ) → record_in (actors ++ fresh ∷ []) m ≡ option_map (λ (a : ActorRecord). a) (option_or (record_in actors m) (record_in (fresh ∷ []) m)) =
     λ m. look_push number_of actors fresh m ∙ mapped_itself (option_or (record_in actors m) (record_in (fresh ∷ []) m)) in
@@ -370,10 +370,10 @@ tree_start next actors tree numbered fresh fresh_number fresh_kids no_parent =
     (ap (λ (o : Option ℕ). option_map_or (within (actors ++ fresh ∷ []) 15) o true) (ap (option_and_then (λ (z : ActorRecord). z.parent)) new ∙ no_parent))
 
 -- a child of an active actor
-module _ (next : ℕ) (actors : List ActorRecord) (tree : Tree next actors) (numbered : 0 < next) (n : ℕ) (parent : ActorRecord) (id : List ℕ) (fresh : ActorRecord)
+module _ (next : ℕ) (actors : List ActorRecord) (tree : ActorTree next actors) (numbered : 0 < next) (n : ℕ) (parent : ActorRecord) (id : List ℕ) (fresh : ActorRecord)
     (seen : record_in actors n ≡ Some parent) (running : is_active parent ≡ true) (fresh_number : fresh.number ≡ next) (fresh_kids : fresh.kids ≡ []) (fresh_parent : fresh.parent ≡ Some n) where
   abbrev adopt : ActorRecord → ActorRecord
-  adopt = at number_of n (with_kid id next)
+  adopt = change_at number_of n (with_kid id next)
 
   abbrev pub with_child_in : List ActorRecord
   with_child_in = map adopt (actors ++ fresh ∷ [])
@@ -415,7 +415,7 @@ module _ (next : ℕ) (actors : List ActorRecord) (tree : Tree next actors) (num
   pub spawned_new : record_in with_child_in next ≡ Some fresh
   spawned_new = grown_new next actors tree numbered adopt fresh with_child_in same_number same_parent same_active fresh_number fresh_kids same_fresh looks listed more
 
-  new_child : (p : ℕ) → fresh.parent ≡ Some p → Child with_child_in fresh p
+  new_child : (p : ℕ) → fresh.parent ≡ Some p → ChildIn with_child_in fresh p
   new_child p is =
       let at_n : n ≡ p = cc in
       let at_parent : parent.number ≡ n = look_number number_of actors n parent seen in
@@ -434,7 +434,7 @@ module _ (next : ℕ) (actors : List ActorRecord) (tree : Tree next actors) (num
         active = λ is. same_active parent ∙ running;
       }
 
-  pub tree_spawn : within actors 15 n ≡ true → Tree (next + 1) with_child_in
+  pub tree_spawn : within actors 15 n ≡ true → ActorTree (next + 1) with_child_in
   tree_spawn level =
       tree_grow next actors tree numbered adopt fresh with_child_in same_number same_parent same_active fresh_number fresh_kids same_fresh looks listed more
       (rises_at number_of n (with_kid id next) (actors ++ fresh ∷ []) (λ x. refl)

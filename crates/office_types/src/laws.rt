@@ -82,6 +82,7 @@ pub fn steps_take_heads()
 /// A letter waits until it is taken, or until its actor ends or is removed.
 pub fn no_letter_is_lost()
     ensures { NoLetterIsLost }
+{}
 
 /// A decision on a request keeps an office valid.
 pub fn decisions_keep_validity()
