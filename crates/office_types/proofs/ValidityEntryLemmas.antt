@@ -64,7 +64,7 @@ module _ (definitions : OfficeDefinitions) (macrostep : Macrostep) (linked : Are
         let head = chained (λ (a : ActorRecord). slice_get a.mailbox 0) (record_of state n) letter.0 letter.1 in
         let machine = machine_of definitions owner.0 own.0 owner.2 (each_look number_of (HasKind definitions) state.actors sound.kinds n owner.0 owner.1) in
         let fits : FitsLetter state.next_actor state.next_letter letter.0 =
-            get_each (FitsLetter state.next_actor state.next_letter) head.0.mailbox 0 letter.0 (each_look number_of (Mail state.next_actor state.next_letter) state.actors sound.parts.mail n head.0 head.1) head.2 in
+        get_each (FitsLetter state.next_actor state.next_letter) head.0.mailbox 0 letter.0 (each_look number_of (Mail state.next_actor state.next_letter) state.actors sound.parts.mail n head.0 head.1) head.2 in
         steps_keep_validity definitions state n own.0 outcome linked valid ready own.1 (subst (IsAllowedOutcome definitions own.0) letter.2 (allows own.0 letter.0.event machine.0 machine.1 fits.2)) room
 
   entries_valid : (entries : List Entry) (state : OfficeState) → IsValidOffice definitions state → AreLegal definitions macrostep state entries → IsValidOffice definitions (after definitions macrostep state entries)
