@@ -1,9 +1,7 @@
 -- The empty office is valid, and legal entries keep an office valid.
-use Rattle.std.proofs.Common.{◌≡◌, ◌≢◌, ℕ, zero, ◌<◌, ◌≤◌, Bool, true, List, [], ◌∷◌, length, refl, sym, ap, subst, ◌∙◌, arith}
-use Rattle.std.specs.Prelude.{Option, None, Some, IsTrue, All, AllPairs, slice_get, ⊤}
-use Rattle.std.specs.List.{AllByRecursion}
-use Rattle.std.specs.Option.{option_and_then, option_map, option_map_or}
-use Rattle.xs_model.specs.declared.value.Value.{Value}
+use Rattle.std.proofs.Common.{◌≡◌, ℕ, ◌<◌, true, List, [], ◌∷◌, refl, subst, arith}
+use Rattle.std.specs.Prelude.{Option, None, Some, slice_get}
+use Rattle.std.specs.Option.{option_map, option_map_or}
 use Rattle.office_types.specs.declared.entry.Entry.{Entry}
 use Rattle.office_types.specs.declared.entry.Entry.TheVariants.{Decided, Step}
 use Rattle.office_types.specs.declared.limits.TheConstants.{MAX_ENTRIES}
@@ -16,14 +14,13 @@ use Rattle.office_types.specs.Decisions.{decided}
 use Rattle.office_types.specs.Definitions.{AreLinked, OfficeDefinitions}
 use Rattle.office_types.specs.Entries.{AreLegal, IsAllowedMacrostep, Macrostep, after, after_entry, head_of, next_outcome}
 use Rattle.office_types.specs.Laws.{EmptyOfficeIsValid, EntriesKeepValidity}
-use Rattle.office_types.specs.Limits.{is_event}
 use Rattle.office_types.specs.Observation.{own_of}
 use Rattle.office_types.specs.Outcomes.{IsAllowedOutcome}
 use Rattle.office_types.specs.Records.{is_ready, record_of}
 use Rattle.office_types.specs.Step.{took}
 use Rattle.office_types.specs.ValidOffice.{IsValidOffice}
 use Rattle.office_types.proofs.ValidityListLemmas.{each_look}
-use Rattle.office_types.proofs.ValidityTreeLemmas.{chained, mapped, number_of, record_in}
+use Rattle.office_types.proofs.ValidityTreeLemmas.{chained, mapped, number_of}
 use Rattle.office_types.proofs.ValidityPartLemmas.{FitsLetter, Mail}
 use Rattle.office_types.proofs.ValidityLemmas.{HasKind, SoundOffice, sound_from}
 use Rattle.office_types.proofs.ValidityDecisionLemmas.{decisions_keep_validity}
@@ -64,7 +61,7 @@ module _ (definitions : OfficeDefinitions) (macrostep : Macrostep) (linked : Are
         let head = chained (λ (a : ActorRecord). slice_get a.mailbox 0) (record_of state n) letter.0 letter.1 in
         let machine = machine_of definitions owner.0 own.0 owner.2 (each_look number_of (HasKind definitions) state.actors sound.kinds n owner.0 owner.1) in
         let fits : FitsLetter state.next_actor state.next_letter letter.0 =
-            get_each (FitsLetter state.next_actor state.next_letter) head.0.mailbox 0 letter.0 (each_look number_of (Mail state.next_actor state.next_letter) state.actors sound.parts.mail n head.0 head.1) head.2 in
+        get_each (FitsLetter state.next_actor state.next_letter) head.0.mailbox 0 letter.0 (each_look number_of (Mail state.next_actor state.next_letter) state.actors sound.parts.mail n head.0 head.1) head.2 in
         steps_keep_validity definitions state n own.0 outcome linked valid ready own.1 (subst (IsAllowedOutcome definitions own.0) letter.2 (allows own.0 letter.0.event machine.0 machine.1 fits.2)) room
 
   entries_valid : (entries : List Entry) (state : OfficeState) → IsValidOffice definitions state → AreLegal definitions macrostep state entries → IsValidOffice definitions (after definitions macrostep state entries)
