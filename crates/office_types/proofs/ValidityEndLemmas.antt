@@ -1,4 +1,4 @@
--- What an office has besides its tree, after an actor was made, was removed or ended, and after its timers changed.
+-- What an office has besides its tree, after an actor was made, was removed or ended.
 use Rattle.std.proofs.Common.{◌≡◌, ◌≢◌, ℕ, ◌+◌, ◌<◌, ◌≤◌, Bool, true, false, cond, not, ◌&&◌, ◌||◌, true≢false, List, [], ◌∷◌, ◌++◌, length, map, refl, sym, ap, subst, ◌∙◌, arith, append-nil, append_assoc}
 use Rattle.std.specs.Prelude.{Option, None, Some, is_some, filter, fold, sum_by, nat_eq, if◌then◌else◌, option_to_list}
 use Rattle.std.specs.List.{AllByRecursion}

@@ -1,9 +1,7 @@
 -- The empty office is valid, and legal entries keep an office valid.
-use Rattle.std.proofs.Common.{◌≡◌, ◌≢◌, ℕ, zero, ◌<◌, ◌≤◌, Bool, true, List, [], ◌∷◌, length, refl, sym, ap, subst, ◌∙◌, arith}
-use Rattle.std.specs.Prelude.{Option, None, Some, IsTrue, All, AllPairs, slice_get, ⊤}
-use Rattle.std.specs.List.{AllByRecursion}
-use Rattle.std.specs.Option.{option_and_then, option_map, option_map_or}
-use Rattle.xs_model.specs.declared.value.Value.{Value}
+use Rattle.std.proofs.Common.{◌≡◌, ℕ, ◌<◌, true, List, [], ◌∷◌, refl, subst, arith}
+use Rattle.std.specs.Prelude.{Option, None, Some, slice_get}
+use Rattle.std.specs.Option.{option_map, option_map_or}
 use Rattle.office_types.specs.declared.entry.Entry.{Entry}
 use Rattle.office_types.specs.declared.entry.Entry.TheVariants.{Decided, Step}
 use Rattle.office_types.specs.declared.limits.TheConstants.{MAX_ENTRIES}
@@ -16,14 +14,13 @@ use Rattle.office_types.specs.Decisions.{decided}
 use Rattle.office_types.specs.Definitions.{AreLinked, OfficeDefinitions}
 use Rattle.office_types.specs.Entries.{AreLegal, IsAllowedMacrostep, Macrostep, after, after_entry, head_of, next_outcome}
 use Rattle.office_types.specs.Laws.{EmptyOfficeIsValid, EntriesKeepValidity}
-use Rattle.office_types.specs.Limits.{is_event}
 use Rattle.office_types.specs.Observation.{own_of}
 use Rattle.office_types.specs.Outcomes.{IsAllowedOutcome}
 use Rattle.office_types.specs.Records.{is_ready, record_of}
 use Rattle.office_types.specs.Step.{took}
 use Rattle.office_types.specs.ValidOffice.{IsValidOffice}
 use Rattle.office_types.proofs.ValidityListLemmas.{each_look}
-use Rattle.office_types.proofs.ValidityTreeLemmas.{chained, mapped, number_of, record_in}
+use Rattle.office_types.proofs.ValidityTreeLemmas.{chained, mapped, number_of}
 use Rattle.office_types.proofs.ValidityPartLemmas.{FitsLetter, Mail}
 use Rattle.office_types.proofs.ValidityLemmas.{HasKind, SoundOffice, sound_from}
 use Rattle.office_types.proofs.ValidityDecisionLemmas.{decisions_keep_validity}

@@ -1,4 +1,4 @@
--- The events that the office makes are events, and but for the one that begins an actor they begin none.
+-- The events that the office makes are events, and only the one that begins an actor begins one.
 use Rattle.std.proofs.Common.{rules, ◌≡◌, Bool, true, false, ◌&&◌, List, ℕ, refl, ap}
 use Rattle.std.specs.Option.{option_map_or}
 use Rattle.std.specs.Str.{bytes_eq}

@@ -1,4 +1,5 @@
--- In the middle of a step: the effects so far leave a valid office but for the children that the own part lists.
+-- In the middle of a step: the effects so far leave a valid office, but for the ids of the children in
+-- the stepped actor's own part, which are those that the step ends with.
 use Rattle.std.proofs.Common.{◌≡◌, ◌≢◌, inl, inr, ℕ, suc, zero, ◌+◌, ◌<◌, ◌≤◌, Bool, true, false, cond, not, ◌||◌, true≢false, List, [], ◌∷◌, ◌++◌, length, map, refl, sym, ap, subst, ◌∙◌, arith}
 use Rattle.std.specs.Prelude.{Option, None, Some, is_some, filter, fold, nat_eq, nat_le, nat_lt, IsTrue, IfSome, Ok, Err, slice_get, if◌then◌else◌, ⊤}
 use Rattle.std.specs.List.{AllByRecursion, list_any}
@@ -47,7 +48,7 @@ use Rattle.office_types.proofs.ValidityDecisionLemmas.{begin_sound, runs_mail, u
 
 -- ---- kinds in the middle of a step
 
--- the actor that takes its step: it has this own part, its children have these ids, and no letter begins it
+-- the actor that takes its step: it has this own part, its children these ids, and no letter begins it
 pub record MidRecord (own : Own) (ids : List (List ℕ)) (actor : ActorRecord) : Type 0 where
   pub same : actor.own ≡ Some own
   pub no_item : actor.item ≡ None

@@ -229,7 +229,7 @@ module _ (next : ℕ) (actors : List ActorRecord) (tree : ActorTree next actors)
   pub none_from_next : (n : ℕ) → next ≤ n → record_in actors n ≡ None
   none_from_next n large = look_none number_of actors n (each_mono (λ (z : ActorRecord). IsGiven next z.number) (λ (z : ActorRecord). z.number ≢ n) actors (λ z given e. omega (arith, given.1)) tree.given)
 
-  -- a change of records that keeps numbers, parents and children, and under which no child outlives its parent
+  -- a change of records that keeps numbers, parents and children, where no child outlives its parent
   module _ (f : ActorRecord → ActorRecord) (same_number : (a : ActorRecord) → (f a).number ≡ a.number) (same_parent : (a : ActorRecord) → (f a).parent ≡ a.parent) (same_kids : (a : ActorRecord) → (f a).kids ≡ a.kids)
       (outlives : (n : ℕ) (a : ActorRecord) (p : ℕ) (b : ActorRecord) → record_in actors n ≡ Some a → a.parent ≡ Some p → record_in actors p ≡ Some b → is_active (f a) ≡ true → is_active (f b) ≡ true) where
     pub parent_map : (n : ℕ) → parent_in (map f actors) n ≡ parent_in actors n

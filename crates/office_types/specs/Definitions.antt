@@ -23,7 +23,8 @@ pub record OfficeDefinitions : Type 0 where
 
 -- each row of the table of actors that is of a machine names one of the machines
 abbrev pub AreLinked : OfficeDefinitions → Type 0
-AreLinked definitions = All (λ (logic : ActorLogic). IfSome logic.machine (λ machine. machine < length definitions.machines)) definitions.actors
+AreLinked definitions =
+    All (λ (logic : ActorLogic). IfSome logic.machine (λ machine. machine < length definitions.machines)) definitions.actors
 
 -- the number of the machine with this id
 abbrev pub machine_named : OfficeDefinitions → List ℕ → Option ℕ

@@ -24,10 +24,12 @@ use Rattle.office_types.specs.Step.{took}
 abbrev pub Macrostep : Type 0
 Macrostep = Own → Value → Outcome
 
--- each outcome is one that the rules allow, where the own part is one of a machine of the definitions, and the event is one
+-- each outcome is one that the rules allow, where the own part is one of a machine of the definitions,
+-- and the event is one
 abbrev pub IsAllowedMacrostep : OfficeDefinitions → Macrostep → Type 0
 IsAllowedMacrostep definitions macrostep =
-    (own : Own) (event : Value) → own.def < length definitions.machines → IsOwnPart (nodes_of definitions own.def) own → IsTrue (is_event event)
+    (own : Own) (event : Value) → own.def < length definitions.machines
+    → IsOwnPart (nodes_of definitions own.def) own → IsTrue (is_event event)
     → IsAllowedOutcome definitions own (macrostep own event)
 
 -- the letter that an actor takes next

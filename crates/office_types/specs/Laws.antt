@@ -190,15 +190,18 @@ NoLetterIsLost =
 -- a decision on a request that a line gives keeps an office valid
 abbrev pub DecisionsKeepValidity : Type 0
 DecisionsKeepValidity =
-    (definitions : OfficeDefinitions) (state : OfficeState) (request : Request) → IsValidOffice definitions state → IsRequest request
+    (definitions : OfficeDefinitions) (state : OfficeState) (request : Request)
+    → IsValidOffice definitions state → IsRequest request
     → IsValidOffice definitions (decided definitions state request).after
 
--- a step of a ready actor with an outcome that the rules allow keeps an office valid where it has room for an entry,
--- each row of the table of actors that is of a machine naming one of the machines
+-- a step of a ready actor with an outcome that the rules allow keeps an office valid where it has room
+-- for an entry, and each row of the table of actors that is of a machine names one of the machines
 abbrev pub StepsKeepValidity : Type 0
 StepsKeepValidity =
-    (definitions : OfficeDefinitions) (state : OfficeState) (number : ℕ) (own : Own) (outcome : Outcome) → AreLinked definitions → IsValidOffice definitions state
-    → IsTrue (is_ready state number) → own_of state number ≡ Some own → IsAllowedOutcome definitions own outcome → state.entries < MAX_ENTRIES
+    (definitions : OfficeDefinitions) (state : OfficeState) (number : ℕ) (own : Own) (outcome : Outcome)
+    → AreLinked definitions → IsValidOffice definitions state
+    → IsTrue (is_ready state number) → own_of state number ≡ Some own
+    → IsAllowedOutcome definitions own outcome → state.entries < MAX_ENTRIES
     → IsValidOffice definitions (took definitions number outcome state)
 
 -- the empty office is valid
@@ -208,5 +211,7 @@ EmptyOfficeIsValid = (definitions : OfficeDefinitions) → IsValidOffice definit
 -- legal entries keep an office valid, where the rules allow each outcome of the macrostep
 abbrev pub EntriesKeepValidity : Type 0
 EntriesKeepValidity =
-    (definitions : OfficeDefinitions) (macrostep : Macrostep) (state : OfficeState) (entries : List Entry) → AreLinked definitions → IsAllowedMacrostep definitions macrostep
-    → IsValidOffice definitions state → AreLegal definitions macrostep state entries → IsValidOffice definitions (after definitions macrostep state entries)
+    (definitions : OfficeDefinitions) (macrostep : Macrostep) (state : OfficeState) (entries : List Entry)
+    → AreLinked definitions → IsAllowedMacrostep definitions macrostep
+    → IsValidOffice definitions state → AreLegal definitions macrostep state entries
+    → IsValidOffice definitions (after definitions macrostep state entries)
