@@ -100,7 +100,8 @@ LettersWaitedBefore =
 abbrev pub mailbox_of : OfficeState → ℕ → List Letter
 mailbox_of state number = option_map_or (λ (actor : ActorRecord). actor.mailbox) (record_of state number) []
 
--- records rise by number, and letters do in each mailbox; the numbers of both were given, and no letter has that of another one
+-- records rise by number, and letters do in each mailbox; the numbers of both were given, and no letter has the
+-- number of another one
 pub record AreNumbersInOrder (state : OfficeState) : Type 0 where
   pub actors_rise : IsStrictlyIncreasing (map (λ (actor : ActorRecord). actor.number) state.actors)
   pub actors_given : All (λ (actor : ActorRecord). actor.number < state.next_actor) state.actors
@@ -149,7 +150,8 @@ letters_taken definitions macrostep state [] = []
 letters_taken definitions macrostep state (entry ∷ entries) =
     option_to_list (taken_letter state entry) ++ letters_taken definitions macrostep (after_entry definitions macrostep state entry) entries
 
--- each number is taken once, and those of one actor in their order, which is that in which they were sent, whoever sent them
+-- each number is taken once at most, and those that one actor takes in their order, which is that in which they were sent,
+-- whoever sent them
 pub record AreTakenInTurn (taken : List TakenLetter) : Type 0 where
   pub once : AllPairs (λ (a b : TakenLetter). a.letter.number ≢ b.letter.number) taken
   pub in_order : AllPairs (λ (a b : TakenLetter). a.actor ≡ b.actor → a.letter.number < b.letter.number) taken
