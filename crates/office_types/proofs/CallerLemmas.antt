@@ -31,7 +31,7 @@ use Rattle.office_types.specs.declared.request.Word.{Word}
 use Rattle.office_types.specs.declared.request.Word.TheVariants as word
 use Rattle.office_types.specs.Decisions.{Decision, Row, after_grant, answer_by, caller_of, callers_row, decided, decision_by, entries_row, first_row, gap_row, grant, next_number, refusal, repeat_row, replies_row, replies_to, row_if, undecided, with_reply}
 use Rattle.office_types.specs.Definitions.{ActorLogic, OfficeDefinitions, machine_named}
-use Rattle.office_types.specs.Effects.{after_cancel, after_effect, after_effects, after_schedule, after_send, after_spawn, after_stop, child_of, has_actor_room, has_level_below, first_letters, is_name_held, timer_now, with_child, with_logic, with_timer_if_room, has_timer_room}
+use Rattle.office_types.specs.Effects.{after_cancel, after_effect, after_effects, after_schedule, after_send, after_spawn, after_stop, child_named, has_actor_room, has_level_below, first_letters, is_name_held, timer_now, with_child, with_logic, with_timer_if_room, has_timer_room}
 use Rattle.office_types.specs.Ends.{after_done, after_end, after_failure, after_telling_parent, done_record, error_record, removed, with_letter_to_parent}
 use Rattle.office_types.specs.Entries.{AreLegal, IsLegalEntry, Macrostep, after, after_entry, next_outcome}
 use Rattle.office_types.specs.Events.{done_event, error_event, fault_error}
@@ -41,7 +41,7 @@ use Rattle.office_types.specs.Mailboxes.{has_letter_room, with_letter_if_room, w
 use Rattle.office_types.specs.Moment.{after_advance, with_delivery}
 use Rattle.office_types.specs.Observation.{after_observation, is_observed, short_snapshot_event, snapshot_of}
 use Rattle.office_types.specs.Receivers.{receiver_of}
-use Rattle.office_types.specs.Records.{is_active_machine, parent_of}
+use Rattle.office_types.specs.Records.{is_active_machine, parent_actor}
 use Rattle.office_types.specs.Step.{after_conclusion, after_outcome, or_failure, took, with_own}
 use Rattle.office_types.specs.Timers.{due_by, not_due}
 
@@ -71,7 +71,7 @@ module _ (callers : List Caller) where
   has_letter state posted name false is has = tt
 
   told : (state : OfficeState) (number : ℕ) (event : List ℕ → Value) → state.callers ≡ callers → Has callers (after_telling_parent state number event)
-  told state number event is = has_option (parent_of state number) _ (Ok state) (λ parent. has_if (has_letter_room state 1) _ _ is tt) is
+  told state number event is = has_option (parent_actor state number) _ (Ok state) (λ parent. has_if (has_letter_room state 1) _ _ is tt) is
 
   sent : (number : ℕ) (target : To) (event : Value) (state : OfficeState) → state.callers ≡ callers → Has callers (after_send number target event state)
   sent number target event state is = has_option (receiver_of state number target) _ (Ok state) (λ receiver. has_if (has_letter_room state 1) _ _ is tt) is
@@ -96,7 +96,7 @@ module _ (callers : List Caller) where
 
   stopped : (number : ℕ) (id : List ℕ) (state : OfficeState) → state.callers ≡ callers → (after_stop number id state).callers ≡ callers
   unfolding removed
-  stopped number id state is = option_callers (child_of state number id) _ state (λ child. is) is
+  stopped number id state is = option_callers (child_named state number id) _ state (λ child. is) is
 
   effect_has : (definitions : OfficeDefinitions) (number : ℕ) (what : Effect) (state : OfficeState) → state.callers ≡ callers → Has callers (after_effect definitions number what state)
   effect_has definitions number (effect.Send target event) state is = sent number target event state is
@@ -157,8 +157,8 @@ module _ (callers : List Caller) where
   unfolding after_end after_advance
   grant_callers definitions name (ask.Start machine system input) state is = option_callers (machine_named definitions machine) _ state (λ number. is) is
   grant_callers definitions name (ask.Send actor event) state is = is
-  grant_callers definitions name (ask.Resolve item output) state is = option_callers (parent_of (after_end (done_record output) item state) item) _ _ (λ parent. is) is
-  grant_callers definitions name (ask.Reject item error) state is = option_callers (parent_of (after_end (error_record error) item state) item) _ _ (λ parent. is) is
+  grant_callers definitions name (ask.Resolve item output) state is = option_callers (parent_actor (after_end (done_record output) item state) item) _ _ (λ parent. is) is
+  grant_callers definitions name (ask.Reject item error) state is = option_callers (parent_actor (after_end (error_record error) item state) item) _ _ (λ parent. is) is
   grant_callers definitions name (ask.At moment) state is = delivered (due_by moment state.timers) (record state { moment = moment; timers = not_due moment state.timers }) is
 
 -- ---- the replies of a caller

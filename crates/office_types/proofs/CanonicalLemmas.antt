@@ -38,7 +38,7 @@ use Rattle.xs_model.specs.Rising.{key_cmp, put}
 use Rattle.xs_model.proofs.CompactLemmas.{compact-List, compact-Map}
 use Rattle.xs_model.proofs.PartLemmas.{Parts, by_parts, parts_every}
 use Rattle.xs_model.proofs.RisingLemmas.{differs}
-use Rattle.office_types.specs.JsonValues.{json_value, map_of}
+use Rattle.office_types.specs.JsonValues.{json_value, members_value}
 use Rattle.office_types.specs.Laws.{CompactTextMeansItsValue, IsPlain, IsPlainLayer}
 use Rattle.office_types.proofs.ValueLemmas.{compact-Bool, compact-Int, compact-Null, compact-Text, json-Bool, json-Int, json-List, json-Null, json-Object, json-Text, json_member, nesting-List, nesting-Map}
 
@@ -440,7 +440,7 @@ map_tree ms all rise =
       taken = λ depth shallow.
           let deep : nesting (value.Map ms) ≡ suc (greatest_depth (map (λ (m : List ℕ × Value). nesting m.1) ms)) = nesting-Map ms in
           (omega arith, members.taken (suc depth) [] (omega arith) tt);
-      means = λ place. json-Object place (members_at (place + 1) [] members.members) ∙ ap map_of (members.means (place + 1) []) ∙ ap value.Map (sorted_already [] ms tt rise);
+      means = λ place. json-Object place (members_at (place + 1) [] members.members) ∙ ap members_value (members.means (place + 1) []) ∙ ap value.Map (sorted_already [] ms tt rise);
     }
 
 -- ---- every plain value

@@ -26,7 +26,7 @@ use Rattle.office_types.specs.declared.request.Reply.{Reply}
 use Rattle.office_types.specs.declared.request.Request.{Request}
 use Rattle.office_types.specs.Decisions.{Row, after_grant, answer_by, decided, decision_by, grant, refusal, undecided, with_reply}
 use Rattle.office_types.specs.Definitions.{ActorLogic, OfficeDefinitions, machine_named}
-use Rattle.office_types.specs.Effects.{after_cancel, after_effect, after_effects, after_schedule, after_send, after_spawn, after_stop, child_of, first_letters, fresh_own, fresh_record, has_actor_room, has_level_below, has_timer_room, is_name_held, timer_now, with_child, with_kid, with_logic, with_machine, with_record, without_kid}
+use Rattle.office_types.specs.Effects.{after_cancel, after_effect, after_effects, after_schedule, after_send, after_spawn, after_stop, child_named, first_letters, fresh_own, fresh_record, has_actor_room, has_level_below, has_timer_room, is_name_held, timer_now, with_child, with_kid, with_logic, with_machine, with_record, without_kid}
 use Rattle.office_types.specs.Ends.{after_end, after_failure, after_telling_parent, child_id, done_record, error_record, removed}
 use Rattle.office_types.specs.Entries.{Macrostep, after, after_entry, next_outcome}
 use Rattle.office_types.specs.Events.{done_event, error_event, fault_error}
@@ -35,7 +35,7 @@ use Rattle.office_types.specs.Mailboxes.{has_letter_room, with_letter, without_h
 use Rattle.office_types.specs.Moment.{after_advance, with_delivery}
 use Rattle.office_types.specs.Observation.{after_observation, is_observed, short_snapshot_event, snapshot_of}
 use Rattle.office_types.specs.Receivers.{receiver_of}
-use Rattle.office_types.specs.Records.{is_active_machine, parent_of, with_actor}
+use Rattle.office_types.specs.Records.{is_active_machine, parent_actor, with_actor}
 use Rattle.office_types.specs.Step.{after_conclusion, after_outcome, or_failure, took, with_entry, with_own}
 use Rattle.office_types.specs.Timers.{due_by, not_due}
 
@@ -133,7 +133,7 @@ module _ (K : OfficeState → Type 0) (kept : IsKeptBesideTaking K) where
 
   told : (state : OfficeState) (number : ℕ) (event : List ℕ → Value) → K state → Holds K (after_telling_parent state number event)
   told state number event is =
-      holds_option (parent_of state number) _ (Ok state)
+      holds_option (parent_actor state number) _ (Ok state)
       (λ parent. holds_if (has_letter_room state 1) _ _ (kept.letter state (origin.Actor number) parent (event (child_id state parent number)) is) tt) is
 
   sent : (number : ℕ) (target : To) (event : Value) (state : OfficeState) → K state → Holds K (after_send number target event state)
@@ -163,7 +163,7 @@ module _ (K : OfficeState → Type 0) (kept : IsKeptBesideTaking K) where
       is
 
   stopped : (number : ℕ) (id : List ℕ) (state : OfficeState) → K state → K (after_stop number id state)
-  stopped number id state is = kept_option (child_of state number id) _ state (λ child. kept.no_kid (removed child state) number id (kept.gone state child is)) is
+  stopped number id state is = kept_option (child_named state number id) _ state (λ child. kept.no_kid (removed child state) number id (kept.gone state child is)) is
 
   effect_holds : (definitions : OfficeDefinitions) (number : ℕ) (what : Effect) (state : OfficeState) → K state → Holds K (after_effect definitions number what state)
   effect_holds definitions number (effect.Send target event) state is = sent number target event state is
@@ -220,10 +220,10 @@ module _ (K : OfficeState → Type 0) (kept : IsKeptBesideTaking K) where
   grant_keeps definitions name (ask.Send actor event) state is = kept.letter state (origin.Caller name) actor event is
   grant_keeps definitions name (ask.Resolve item output) state is =
       let over = kept.done state item output is in
-      kept_option (parent_of (after_end (done_record output) item state) item) _ _ (λ parent. kept.letter _ (origin.Actor item) parent _ over) over
+      kept_option (parent_actor (after_end (done_record output) item state) item) _ _ (λ parent. kept.letter _ (origin.Actor item) parent _ over) over
   grant_keeps definitions name (ask.Reject item error) state is =
       let over = kept.failed state item error is in
-      kept_option (parent_of (after_end (error_record error) item state) item) _ _ (λ parent. kept.letter _ (origin.Actor item) parent _ over) over
+      kept_option (parent_actor (after_end (error_record error) item state) item) _ _ (λ parent. kept.letter _ (origin.Actor item) parent _ over) over
   grant_keeps definitions name (ask.At moment) state is =
       delivered (due_by moment state.timers) (record state { moment = moment; timers = not_due moment state.timers }) (kept.moment state moment (not_due moment state.timers) is)
 

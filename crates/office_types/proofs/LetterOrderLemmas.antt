@@ -11,7 +11,7 @@ use Rattle.office_types.specs.declared.office.OfficeState.{OfficeState}
 use Rattle.office_types.specs.Definitions.{OfficeDefinitions}
 use Rattle.office_types.specs.Entries.{Macrostep, after, after_entry}
 use Rattle.office_types.specs.Laws.{LettersEnterOneMailbox, mailbox_of}
-use Rattle.office_types.specs.Records.{record_of}
+use Rattle.office_types.specs.Records.{actor_record}
 use Rattle.office_types.proofs.ChangeLemmas.{entries_keep}
 use Rattle.office_types.proofs.NumberLemmas.{Before, Differ, InOrder, PairsByRecursion, Rise, Single, order_from, order_kept}
 use Rattle.office_types.proofs.RecordLemmas.{Among, Everywhere, Mail, all_weaker, among_at, among_has, mail_kept}
@@ -84,7 +84,7 @@ IsIt number letter other m = letter.number ≡ m.number → (number ≡ other) �
 one_place : (number : ℕ) (letter : Letter) (state : OfficeState) → InOrder state → Among (mailbox_of state number) letter
     → AllByRecursion (λ (actor : ActorRecord). AllByRecursion (IsIt number letter actor.number) actor.mailbox) state.actors × (letter.number < state.next_letter)
 one_place number letter state order among =
-    let held = holder (record_of state number) letter among in
+    let held = holder (actor_record state number) letter among in
     let found : ActorRecord = held.0 in
     let single = found_has (Single state.next_actor state.next_letter) number state.actors order.0 found held.1 in
     let it : AllByRecursion (IsIt number letter found.number) found.mailbox =
@@ -115,7 +115,7 @@ letters_enter_one_mailbox definitions macrostep state before between actor actor
     let kept = entries_keep (Everywhere (Mail P now.next_letter new) now.next_letter 0) (mail_kept P now.next_letter new) definitions macrostep between now (first.0, omega arith, omega arith) in
     let then' = after definitions macrostep now between in
     let waiting : Contains (mailbox_of then' actor') letter' = subst (λ (s : OfficeState). Contains (mailbox_of s actor') letter') (after_both definitions macrostep state before between) waits' in
-    let held = holder (record_of then' actor') letter' (among_at (mailbox_of then' actor') letter' waiting.0 waiting.1 waiting.2) in
+    let held = holder (actor_record then' actor') letter' (among_at (mailbox_of then' actor') letter' waiting.0 waiting.1 waiting.2) in
     let found = found_has (λ (a : ActorRecord). AllByRecursion (P a.number) a.mailbox) actor' then'.actors kept.0 held.0 held.1 in
     let it = among_has (P held.0.number) held.0.mailbox found.0 letter' held.2 same in
     (it.0 ∙ found.1, it.1)

@@ -13,7 +13,7 @@ use Rattle.office_types.specs.Definitions.{OfficeDefinitions}
 use Rattle.office_types.specs.Entries.{AreLegal, Macrostep, after, after_entry}
 use Rattle.office_types.specs.Laws.{NoLetterIsLost, TakenLetter, letters_taken, mailbox_of, taken_letter}
 use Rattle.office_types.specs.Mailboxes.{without_head}
-use Rattle.office_types.specs.Records.{is_active, is_active_machine, is_active_status, record_of}
+use Rattle.office_types.specs.Records.{is_active, is_active_machine, is_active_status, actor_record}
 use Rattle.office_types.specs.Step.{took}
 use Rattle.office_types.proofs.ChangeLemmas.{IsKeptBesideTaking, decision_keeps, entries_keep, rest_keeps}
 use Rattle.office_types.proofs.LetterOrderLemmas.{IsOther, found_has, holder, others_differ}
@@ -63,7 +63,7 @@ module _ (number : ℕ) (letter : Letter) where
     by_test actor waits false other = waits
 
   -- so does one of its own actor that takes another letter
-  behind_head : (macrostep : Macrostep) (stepped : ℕ) (state : OfficeState) → stepped ≡ number → InOrder state → (head : HasHead macrostep (record_of state stepped)) → Among head.others letter → Kept state → Kept (without_head state stepped)
+  behind_head : (macrostep : Macrostep) (stepped : ℕ) (state : OfficeState) → stepped ≡ number → InOrder state → (head : HasHead macrostep (actor_record state stepped)) → Among head.others letter → Kept state → Kept (without_head state stepped)
   behind_head macrostep stepped state own order head among kept = (
     all_map (λ (actor : ActorRecord). (actor ≡ head.found) ⊎ IsOther stepped head.found actor) Waits _ (λ actor case. by_case actor case (nat_eq actor.number stepped) refl) state.actors
         (others_differ stepped state.actors order.1 head.found head.is),
@@ -84,7 +84,7 @@ module _ (number : ℕ) (letter : Letter) where
     abbrev Fate : OfficeState → List Entry → Type 0
     Fate state entries = Kept (after definitions macrostep state entries) ⊎ Among (letters_taken definitions macrostep state entries) (taken_by number letter)
 
-    step_fate : (stepped : ℕ) (state : OfficeState) (entries : List Entry) → InOrder state → Kept state → HasHead macrostep (record_of state stepped)
+    step_fate : (stepped : ℕ) (state : OfficeState) (entries : List Entry) → InOrder state → Kept state → HasHead macrostep (actor_record state stepped)
         → (Kept (after_entry definitions macrostep state (Step stepped)) → Fate (after_entry definitions macrostep state (Step stepped)) entries) → Fate state (Step stepped ∷ entries)
     step_fate stepped state entries order kept head rest = by_number (nat_eq stepped number) refl where
       onwards : Kept (without_head state stepped) → Fate state (Step stepped ∷ entries)
@@ -113,13 +113,13 @@ module _ (number : ℕ) (letter : Letter) where
         fate entries (after_entry definitions macrostep state (Decided request)) (entries_keep InOrder order_kept definitions macrostep (Decided request ∷ []) state order) legal.1
         (decision_keeps Kept waits_kept definitions state request kept)
     fate (Step stepped ∷ entries) state order legal kept =
-        step_fate stepped state entries order kept (has_head macrostep (record_of state stepped) legal.0.0)
+        step_fate stepped state entries order kept (has_head macrostep (actor_record state stepped) legal.0.0)
         (λ kept'. fate entries (after_entry definitions macrostep state (Step stepped)) (entries_keep InOrder order_kept definitions macrostep (Step stepped ∷ []) state order) legal.1 kept')
 
   -- a letter that waits is kept at first
   kept_first : (state : OfficeState) → InOrder state → Among (mailbox_of state number) letter → Kept state
   kept_first state order among =
-      let held = holder (record_of state number) letter among in
+      let held = holder (actor_record state number) letter among in
       let single = found_has (Single state.next_actor state.next_letter) number state.actors order.0 held.0 held.1 in (
         all_weaker (λ (actor : ActorRecord). (actor ≡ held.0) ⊎ IsOther number held.0 actor) Waits (by_case held.0 held.2) state.actors (others_differ number state.actors order.1 held.0 held.1),
         omega arith,
@@ -132,7 +132,7 @@ module _ (number : ℕ) (letter : Letter) where
   -- and waits at last, if the actor is active
   kept_last : (state : OfficeState) → is_active_machine state number ≡ true → Kept state → Among (mailbox_of state number) letter
   kept_last state active kept =
-      let held = active_holder (record_of state number) active in
+      let held = active_holder (actor_record state number) active in
       let found = found_has Waits number state.actors kept.0 held.0 held.1 in
       subst (λ (o : Option ActorRecord). Among (option_map_or (λ (actor : ActorRecord). actor.mailbox) o []) letter) (sym held.1) (found.0 found.1 held.2)
 

@@ -25,7 +25,7 @@ use Rattle.xs_model.specs.declared.value.Value.TheVariants.{rolls-Null, rolls-Bo
 use Rattle.xs_model.specs.Rising.{KeysRise, key_cmp, put}
 use Rattle.xs_model.proofs.PartLemmas.{every_from_parts}
 use Rattle.xs_model.proofs.RisingLemmas.{rises_put}
-use Rattle.office_types.specs.JsonValues.{json_value, map_of}
+use Rattle.office_types.specs.JsonValues.{json_value, members_value}
 use Rattle.office_types.specs.Laws.{IsPlain, IsPlainLayer, MeantValuesArePlain}
 use Rattle.office_types.proofs.CanonicalLemmas.{member_is}
 use Rattle.office_types.proofs.ValueLemmas.{json-Bool, json-Int, json-List, json-Null, json-Object, json-Text, json_member}

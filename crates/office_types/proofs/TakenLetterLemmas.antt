@@ -16,7 +16,7 @@ use Rattle.office_types.specs.Definitions.{OfficeDefinitions}
 use Rattle.office_types.specs.Entries.{AreLegal, Macrostep, after, after_entry, head_of}
 use Rattle.office_types.specs.Laws.{LaterLettersHaveGreaterNumbers, LettersAreTakenInTurn, StepsTakeHeads, TakenLetter, letters_taken, mailbox_of}
 use Rattle.office_types.specs.Mailboxes.{without_head}
-use Rattle.office_types.specs.Records.{is_active, is_ready_actor, record_of}
+use Rattle.office_types.specs.Records.{is_active, is_ready_actor, actor_record}
 use Rattle.office_types.specs.Step.{took}
 use Rattle.office_types.specs.ValidOffice.{letters_of}
 use Rattle.office_types.proofs.ChangeLemmas.{beside_taking, decided_keeps, entries_keep, rest_keeps}
@@ -83,7 +83,7 @@ apart_later number letter other m later = ((λ same. absurd (omega arith)), (λ 
 abbrev pub Left : ℕ → Letter → OfficeState → Type 0
 Left number letter = Everywhere (Mail (IsApart number letter) (letter.number + 1) (apart_later number letter)) (letter.number + 1) 0
 
-module _ (macrostep : Macrostep) (state : OfficeState) (number : ℕ) (order : InOrder state) (head : HasHead macrostep (record_of state number)) where
+module _ (macrostep : Macrostep) (state : OfficeState) (number : ℕ) (order : InOrder state) (head : HasHead macrostep (actor_record state number)) where
   single : Single state.next_actor state.next_letter head.found × (head.found.number ≡ number)
   single = found_has (Single state.next_actor state.next_letter) number state.actors order.0 head.found head.is
 
@@ -155,7 +155,7 @@ head_among (Some actor) letter is = first_among actor.mailbox letter is
 module _ (P : ℕ → Letter → Type 0) (n : ℕ) (new : (number : ℕ) (letter : Letter) → n ≤ letter.number → P number letter) (definitions : OfficeDefinitions) (macrostep : Macrostep) where
   head_has : (number : ℕ) (state : OfficeState) (letter : Letter) → Everywhere (Mail P n new) n 0 state → head_of state number ≡ Some letter → P number letter
   head_has number state letter is head =
-      let held = holder (record_of state number) letter (head_among (record_of state number) letter head) in
+      let held = holder (actor_record state number) letter (head_among (actor_record state number) letter head) in
       let found = found_has (Mail P n new) number state.actors is.0 held.0 held.1 in
       subst (λ (k : ℕ). P k letter) found.1 (among_has (P held.0.number) held.0.mailbox found.0 letter held.2)
 
@@ -193,7 +193,7 @@ turns definitions macrostep (Decided request ∷ entries) state order legal =
     turns definitions macrostep entries (after_entry definitions macrostep state (Decided request)) (decided_keeps InOrder order_kept definitions state request order) legal.1
 turns definitions macrostep (Step number ∷ entries) state order legal =
     let later : OfficeState = after_entry definitions macrostep state (Step number) in
-    let head = has_head macrostep (record_of state number) legal.0.0 in
+    let head = has_head macrostep (actor_record state number) legal.0.0 in
     let rest = turns definitions macrostep entries later (entries_keep InOrder order_kept definitions macrostep (Step number ∷ []) state order) legal.1 in
     let apart = taken_later definitions macrostep number head.letter entries later (step_leaves macrostep state number order head definitions) in
     subst (λ (o : Option Letter). PairsByRecursion IsInTurn (option_to_list (option_map {U = TakenLetter} (λ (letter : Letter). record { actor = number; letter = letter }) o) ++ letters_taken definitions macrostep later entries)) (sym head.head)
@@ -214,7 +214,7 @@ steps_take_heads definitions macrostep state before number entries order legal =
     let now : OfficeState = after definitions macrostep state before in
     let order' = entries_keep InOrder order_kept definitions macrostep before state (order_from state order) in
     let legal' = legal_rest definitions macrostep state before (Step number ∷ entries) legal in
-    let head = has_head macrostep (record_of now number) legal'.0.0 in
+    let head = has_head macrostep (actor_record now number) legal'.0.0 in
     let later : OfficeState = after_entry definitions macrostep now (Step number) in
     let left = step_leaves macrostep now number order' head definitions in
     let kept = entries_keep (Left number head.letter) (mail_kept (IsApart number head.letter) (head.letter.number + 1) (apart_later number head.letter)) definitions macrostep entries later left in

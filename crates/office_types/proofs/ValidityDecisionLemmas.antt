@@ -27,7 +27,7 @@ use Rattle.office_types.specs.Laws.{DecisionsKeepValidity}
 use Rattle.office_types.specs.Limits.{has_limits, is_event, is_name, is_short}
 use Rattle.office_types.specs.Mailboxes.{has_letter_room, waiting_letters, with_letter, with_mail}
 use Rattle.office_types.specs.Moment.{after_advance, due_letters, with_delivery}
-use Rattle.office_types.specs.Records.{is_active, is_active_machine, is_open_item, parent_of, record_of}
+use Rattle.office_types.specs.Records.{is_active, is_active_machine, is_open_item, parent_actor, actor_record}
 use Rattle.office_types.specs.Requests.{HasAskForm, IsSystemName}
 use Rattle.office_types.specs.SystemNames.{holder_of}
 use Rattle.office_types.specs.Timers.{by_due, due_by, insert_by_due, not_due}
@@ -175,7 +175,7 @@ unfolding after_end
 actors_after_end end n state = refl
 
 pub parent_after_end : (end : ActorRecord → ActorRecord) (n m : ℕ) (state : OfficeState) → ((a : ActorRecord) → (end a).number ≡ a.number) → ((a : ActorRecord) → (end a).parent ≡ a.parent) → ((a : ActorRecord) → (end a).mailbox ≡ [])
-    → ((a : ActorRecord) → (end a).system ≡ None) → parent_of (after_end end n state) m ≡ parent_of state m
+    → ((a : ActorRecord) → (end a).system ≡ None) → parent_actor (after_end end n state) m ≡ parent_actor state m
 unfolding after_end subtree_of
 parent_after_end end n m state same_number same_parent empty unnamed =
     let gone : List ℕ = all_below state.actors (n ∷ []) in
@@ -221,9 +221,9 @@ module _ (definitions : OfficeDefinitions) (K : ActorRecord → Type 0) (callers
   pub given_after : IsGiven (after_end end n state).next_actor n
   given_after = let given : IsGiven state.next_actor n = given_in state.next_actor state.actors sound.tree n actor seen in (given.0, omega (arith, given.1, actors_after_end end n state))
 
-  pub parent_runs_after : (p : ℕ) → parent_of (after_end end n state) n ≡ Some p → runs_in (after_end end n state).actors p ≡ true
+  pub parent_runs_after : (p : ℕ) → parent_actor (after_end end n state) n ≡ Some p → runs_in (after_end end n state).actors p ≡ true
   parent_runs_after p is =
-      let before : parent_of state n ≡ Some p = sym (parent_after_end end n n state same_number same_parent empty unnamed) ∙ is in
+      let before : parent_actor state n ≡ Some p = sym (parent_after_end end n n state same_number same_parent empty unnamed) ∙ is in
       let own_parent : actor.parent ≡ Some p = ap (option_and_then (λ (a : ActorRecord). a.parent)) (sym seen) ∙ before in
       runs_after_end K callers state sound end n p same_number empty unnamed (parent_smaller state.next_actor state.actors sound.tree n p before)
       (parent_runs definitions K callers state sound n p actor seen active own_parent (λ b there less kind. others b (λ same. (let at_p : b.number ≡ p = look_number number_of state.actors p b there in omega arith)) kind))
@@ -237,13 +237,13 @@ module _ (definitions : OfficeDefinitions) (K : ActorRecord → Type 0) (callers
 
 module _ (definitions : OfficeDefinitions) (callers : List Caller) (state : OfficeState) (sound : SoundOffice (HasKind definitions) callers state) where
   open_record : (n : ℕ) → is_open_item state n ≡ true → (a : ActorRecord) × (record_in state.actors n ≡ Some a) × (is_active a ≡ true)
-  open_record n is = by_record (record_of state n) refl is where
-    by_record : (o : Option ActorRecord) → record_of state n ≡ o → option_map_or (λ (a : ActorRecord). is_active a && is_some a.item) o false ≡ true → (a : ActorRecord) × (record_in state.actors n ≡ Some a) × (is_active a ≡ true)
+  open_record n is = by_record (actor_record state n) refl is where
+    by_record : (o : Option ActorRecord) → actor_record state n ≡ o → option_map_or (λ (a : ActorRecord). is_active a && is_some a.item) o false ≡ true → (a : ActorRecord) × (record_in state.actors n ≡ Some a) × (is_active a ≡ true)
     by_record None there is = absurd (true≢false (sym is))
     by_record (Some a) there is = (a, there, (and_parts (is_active a) (is_some a.item) is).0)
 
   -- where the letters to a parent find room, one does if there is a parent
-  parent_room : (n p : ℕ) → has_letter_room state (letters_to_parent state n) ≡ true → parent_of state n ≡ Some p → has_letter_room state 1 ≡ true
+  parent_room : (n p : ℕ) → has_letter_room state (letters_to_parent state n) ≡ true → parent_actor state n ≡ Some p → has_letter_room state 1 ≡ true
   parent_room n p room is = ap (λ (o : Option ℕ). has_letter_room state (option_map_or (λ (parent : ℕ). 1) o 0)) (sym is) ∙ room
 
   closed_sound : (n : ℕ) (end : ActorRecord → ActorRecord) (event : List ℕ → Value) → is_open_item state n ≡ true → has_letter_room state (letters_to_parent state n) ≡ true

@@ -16,7 +16,7 @@ use Rattle.office_types.specs.Entries.{AreLegal, IsAllowedMacrostep, Macrostep, 
 use Rattle.office_types.specs.Laws.{EmptyOfficeIsValid, EntriesKeepValidity}
 use Rattle.office_types.specs.Observation.{own_of}
 use Rattle.office_types.specs.Outcomes.{IsAllowedOutcome}
-use Rattle.office_types.specs.Records.{is_ready, record_of}
+use Rattle.office_types.specs.Records.{is_ready, actor_record}
 use Rattle.office_types.specs.Step.{took}
 use Rattle.office_types.specs.ValidOffice.{IsValidOffice}
 use Rattle.office_types.proofs.ValidityListLemmas.{each_look}
@@ -57,8 +57,8 @@ module _ (definitions : OfficeDefinitions) (macrostep : Macrostep) (linked : Are
         let sound : SoundOffice (HasKind definitions) state.callers state = sound_from definitions state valid room in
         let own = chained (λ (o : Own). option_map (λ (letter : Letter). macrostep o letter.event) (head_of state n)) (own_of state n) outcome is in
         let letter = mapped (λ (l : Letter). macrostep own.0 l.event) (head_of state n) outcome own.2 in
-        let owner = chained (λ (a : ActorRecord). a.own) (record_of state n) own.0 own.1 in
-        let head = chained (λ (a : ActorRecord). slice_get a.mailbox 0) (record_of state n) letter.0 letter.1 in
+        let owner = chained (λ (a : ActorRecord). a.own) (actor_record state n) own.0 own.1 in
+        let head = chained (λ (a : ActorRecord). slice_get a.mailbox 0) (actor_record state n) letter.0 letter.1 in
         let machine = machine_of definitions owner.0 own.0 owner.2 (each_look number_of (HasKind definitions) state.actors sound.kinds n owner.0 owner.1) in
         let fits : FitsLetter state.next_actor state.next_letter letter.0 =
         get_each (FitsLetter state.next_actor state.next_letter) head.0.mailbox 0 letter.0 (each_look number_of (Mail state.next_actor state.next_letter) state.actors sound.parts.mail n head.0 head.1) head.2 in

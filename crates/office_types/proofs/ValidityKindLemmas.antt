@@ -21,7 +21,7 @@ use Rattle.office_types.specs.Effects.{fresh_own, fresh_record}
 use Rattle.office_types.specs.Ends.{after_telling_parent, child_id, done_record, ended_record, error_record, with_letter_to_parent}
 use Rattle.office_types.specs.Limits.{is_event, is_name, is_short}
 use Rattle.office_types.specs.Mailboxes.{has_letter_room, waiting_letters, with_letter, with_letter_if_room, with_mail}
-use Rattle.office_types.specs.Records.{is_active, is_active_status, parent_of}
+use Rattle.office_types.specs.Records.{is_active, is_active_status, parent_actor}
 use Rattle.office_types.specs.ValidOffice.{HasInitAsHead, HasItsInit, HasNoInit, IsGiven, IsOfOneKind, is_init}
 use Rattle.office_types.proofs.ValidityListLemmas.{each_look, each_push, look_number}
 use Rattle.office_types.proofs.ValidityEventLemmas.{begins_none, null_is_short}
@@ -159,19 +159,19 @@ module _ (definitions : OfficeDefinitions) (callers : List Caller) (state : Offi
       kind_mail definitions (new_letter state (origin.Actor n) letter_event) a (begins (child_id state p n)) (ap (λ (z : ActorRecord). is_some z.own) (sym same) ∙ runner_record.3) kind))
 
   -- a letter to the parent, if there is one
-  pub told_sound : ((p : ℕ) → parent_of state n ≡ Some p → runs_in state.actors p ≡ true) → ((p : ℕ) → parent_of state n ≡ Some p → has_letter_room state 1 ≡ true) → SoundOffice (HasKind definitions) callers (with_letter_to_parent state n event)
-  told_sound runner room = by_parent (parent_of state n) refl where
-    by_parent : (o : Option ℕ) → parent_of state n ≡ o → SoundOffice (HasKind definitions) callers (option_map_or (λ (parent : ℕ). with_letter state (origin.Actor n) parent (event (child_id state parent n))) o state)
+  pub told_sound : ((p : ℕ) → parent_actor state n ≡ Some p → runs_in state.actors p ≡ true) → ((p : ℕ) → parent_actor state n ≡ Some p → has_letter_room state 1 ≡ true) → SoundOffice (HasKind definitions) callers (with_letter_to_parent state n event)
+  told_sound runner room = by_parent (parent_actor state n) refl where
+    by_parent : (o : Option ℕ) → parent_actor state n ≡ o → SoundOffice (HasKind definitions) callers (option_map_or (λ (parent : ℕ). with_letter state (origin.Actor n) parent (event (child_id state parent n))) o state)
     by_parent None is = sound
     by_parent (Some p) is = to_parent p (runner p is) (room p is)
 
   -- the same, where it finds room
-  pub told_if_room : ((p : ℕ) → parent_of state n ≡ Some p → runs_in state.actors p ≡ true) → (after : OfficeState) → after_telling_parent state n event ≡ Ok after → SoundOffice (HasKind definitions) callers after
-  told_if_room runner after is = by_parent (parent_of state n) refl is where
+  pub told_if_room : ((p : ℕ) → parent_actor state n ≡ Some p → runs_in state.actors p ≡ true) → (after : OfficeState) → after_telling_parent state n event ≡ Ok after → SoundOffice (HasKind definitions) callers after
+  told_if_room runner after is = by_parent (parent_actor state n) refl is where
     by_room : (p : ℕ) → runs_in state.actors p ≡ true → (b : Bool) → has_letter_room state 1 ≡ b → (if b then Ok (with_letter state (origin.Actor n) p (event (child_id state p n))) else Err fault.LettersFull) ≡ Ok after → SoundOffice (HasKind definitions) callers after
     by_room p runner true room is = (let same : with_letter state (origin.Actor n) p (event (child_id state p n)) ≡ after = cc in subst (SoundOffice (HasKind definitions) callers) same (to_parent p runner room))
     by_room p runner false room is = absurd (cc)
 
-    by_parent : (o : Option ℕ) → parent_of state n ≡ o → option_map_or (λ (parent : ℕ). with_letter_if_room state (origin.Actor n) parent (event (child_id state parent n))) o (Ok state) ≡ Ok after → SoundOffice (HasKind definitions) callers after
+    by_parent : (o : Option ℕ) → parent_actor state n ≡ o → option_map_or (λ (parent : ℕ). with_letter_if_room state (origin.Actor n) parent (event (child_id state parent n))) o (Ok state) ≡ Ok after → SoundOffice (HasKind definitions) callers after
     by_parent None none is = (let same : state ≡ after = cc in subst (SoundOffice (HasKind definitions) callers) same sound)
     by_parent (Some p) parent is = by_room p (runner p parent) (has_letter_room state 1) refl is

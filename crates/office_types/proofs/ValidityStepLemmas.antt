@@ -24,7 +24,7 @@ use Rattle.office_types.specs.declared.outcome.FaultName.TheVariants.{ActorsFull
 use Rattle.office_types.specs.declared.outcome.Own.{Own}
 use Rattle.office_types.specs.declared.outcome.To.{To}
 use Rattle.office_types.specs.Definitions.{ActorLogic, AreLinked, OfficeDefinitions}
-use Rattle.office_types.specs.Effects.{after_cancel, after_effect, after_effects, after_schedule, after_send, after_spawn, after_stop, child_of, first_letters, fresh_own, fresh_record, has_actor_room, has_level_below, has_timer_room, is_name_held, timer_now, with_child, with_item, with_kid, with_logic, with_machine, with_record, with_timer, with_timer_if_room, without_kid}
+use Rattle.office_types.specs.Effects.{after_cancel, after_effect, after_effects, after_schedule, after_send, after_spawn, after_stop, child_named, first_letters, fresh_own, fresh_record, has_actor_room, has_level_below, has_timer_room, is_name_held, timer_now, with_child, with_item, with_kid, with_logic, with_machine, with_record, with_timer, with_timer_if_room, without_kid}
 use Rattle.office_types.specs.Ends.{removed, subtree_of}
 use Rattle.office_types.specs.Events.{event_type, init_event, is_reserved}
 use Rattle.office_types.specs.Fitting.{Fitted, ◌>>=◌}
@@ -32,7 +32,7 @@ use Rattle.office_types.specs.Limits.{is_name, is_short}
 use Rattle.office_types.specs.Mailboxes.{has_letter_room, with_letter, with_letter_if_room, with_mail}
 use Rattle.office_types.specs.Outcomes.{AreAllowedEffects, IsAllowedEffect, IsSent, IsSpawn, IsTimed, children_after}
 use Rattle.office_types.specs.Receivers.{if_active_machine, named_by, receiver_of}
-use Rattle.office_types.specs.Records.{is_active, is_active_machine, record_of, with_actor}
+use Rattle.office_types.specs.Records.{is_active, is_active_machine, actor_record, with_actor}
 use Rattle.office_types.specs.Timers.{beside, has_id, with_scheduled, without_id}
 use Rattle.office_types.specs.ValidOffice.{AreOfOneId, IsGiven, is_init}
 use Rattle.office_types.proofs.ValidityListLemmas.{EachPair, change_at, at_same, each_filter, each_look, each_mono, each_passing, each_push, look_number, map_pairs, pairs_filter, pairs_push, sum_map_le, sum_push}
@@ -179,7 +179,7 @@ module _ (definitions : OfficeDefinitions) (linked : AreLinked definitions) (cal
     }
 
     receiver_runs : (target : To) (receiver : ℕ) → receiver_of state n target ≡ Some receiver → runs_in state.actors receiver ≡ true
-    receiver_runs target receiver is = by_name (option_and_then (λ (actor : ActorRecord). named_by state actor target) (record_of state n)) is where
+    receiver_runs target receiver is = by_name (option_and_then (λ (actor : ActorRecord). named_by state actor target) (actor_record state n)) is where
       by_running : (m : ℕ) → (b : Bool) → is_active_machine state m ≡ b → (if b then Some m else None) ≡ Some receiver → runs_in state.actors receiver ≡ true
       by_running m true runs_m is = (let same : m ≡ receiver = cc in ap (runs_in state.actors) (sym same) ∙ runs_m)
       by_running m false runs_m is = absurd (cc)
@@ -398,7 +398,7 @@ module _ (definitions : OfficeDefinitions) (linked : AreLinked definitions) (cal
         let found = found_among id runner.0.kids (ap (list_any (bytes_eq id)) before.listed ∙ held) in
         let differ : EachPair (λ (a b : List ℕ × ℕ). a.0 ≢ b.0) runner.0.kids =
         map_pairs (λ (a b : List ℕ). a ≢ b) (λ (kid : List ℕ × ℕ). kid.0) runner.0.kids (subst (EachPair (λ (a b : List ℕ). a ≢ b)) (sym before.listed) mid.differ) in
-        let child : child_of state n id ≡ Some found.0 = ap (option_and_then (λ (actor : ActorRecord). lookup (bytes_eq id) actor.kids)) runner.1 ∙ found.1 in
+        let child : child_named state n id ≡ Some found.0 = ap (option_and_then (λ (actor : ActorRecord). lookup (bytes_eq id) actor.kids)) runner.1 ∙ found.1 in
         let left : List (List ℕ) = filter (λ (other : List ℕ). not (bytes_eq other id)) ids in
         let stopped : MidSound left (with_actor (removed found.0 state) n (without_kid id)) = record {
           sound = stop_sound (MidKind ids) (MidKind left) callers state n id found.0 runner.0 mid.sound runner.1 differ found.1

@@ -29,7 +29,7 @@ use Rattle.office_types.specs.Mailboxes.{without_head}
 use Rattle.office_types.specs.Observation.{after_observation, is_observed, short_snapshot_event, snapshot_of}
 use Rattle.office_types.specs.Outcomes.{IsAllowedBy, IsAllowedOutcome, IsThrough, IsUndone, children_after}
 use Rattle.office_types.specs.OwnParts.{HasBegun, IsOwnPart}
-use Rattle.office_types.specs.Records.{is_active, is_ready, is_ready_actor, record_of}
+use Rattle.office_types.specs.Records.{is_active, is_ready, is_ready_actor, actor_record}
 use Rattle.office_types.specs.Step.{after_conclusion, after_outcome, or_failure, took, with_own}
 use Rattle.office_types.specs.ValidOffice.{HasInitAsHead, HasItsInit, HasNoInit, IsOfOneKind, is_init}
 use Rattle.office_types.proofs.ValidityListLemmas.{EachPair, change_at, at_number, at_same, each_look, look_number, pairs_from}
@@ -234,8 +234,8 @@ children_differ definitions own (inl fresh) = subst (EachPair (λ (a b : List �
 children_differ definitions own (inr begun) = pairs_from (λ (a b : List ℕ). a ≢ b) own.children begun.children.distinct
 
 ready_record : (state : OfficeState) (n : ℕ) → is_ready state n ≡ true → (a : ActorRecord) × (record_in state.actors n ≡ Some a) × (is_active a ≡ true) × (is_some a.own ≡ true)
-ready_record state n is = by_record (record_of state n) refl is where
-  by_record : (o : Option ActorRecord) → record_of state n ≡ o → option_map_or is_ready_actor o false ≡ true → (a : ActorRecord) × (record_in state.actors n ≡ Some a) × (is_active a ≡ true) × (is_some a.own ≡ true)
+ready_record state n is = by_record (actor_record state n) refl is where
+  by_record : (o : Option ActorRecord) → actor_record state n ≡ o → option_map_or is_ready_actor o false ≡ true → (a : ActorRecord) × (record_in state.actors n ≡ Some a) × (is_active a ≡ true) × (is_some a.own ≡ true)
   by_record None seen is = absurd (true≢false (sym is))
   by_record (Some a) seen is =
       let parts = and_parts (is_active a) (is_some a.own && nat_lt 0 (length a.mailbox)) is in

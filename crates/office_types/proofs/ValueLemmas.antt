@@ -20,7 +20,7 @@ use Rattle.xs_model.specs.Rising.{put}
 use Rattle.xs_model.proofs.CompactLemmas.{compact-List, compact-Map}
 use Rattle.xs_model.proofs.PartLemmas.{by_parts, Parts}
 use Rattle.std.specs.List.{AllByRecursion}
-use Rattle.office_types.specs.JsonValues.{json_value, layer_value, map_of, member_value}
+use Rattle.office_types.specs.JsonValues.{json_value, layer_value, members_value, member_value}
 use Rattle.xs_model.specs.declared.value.Value.TheViews.{roll-Value}
 use Rattle.office_types.specs.Tokens.{member_tokens, tokens_of}
 
@@ -55,7 +55,7 @@ same_members (m ∷ members) =
     ap (λ (x : List ℕ × Value). x ∷ map (fold-Member Value (List ℕ × Value) layer_value member_value) members) (fold_out-Member Value (List ℕ × Value) layer_value member_value m)
     ∙ ap (λ xs. json_member m ∷ xs) (same_members members)
 
-pub json-Object : (place : ℕ) (members : List Member) → json_value (json.Object place members) ≡ map_of (map json_member members)
+pub json-Object : (place : ℕ) (members : List Member) → json_value (json.Object place members) ≡ members_value (map json_member members)
 json-Object place members = search (rules, json_lemmas, same_members)
 
 -- ---- the text and the nesting of each kind

@@ -24,7 +24,7 @@ use Rattle.office_types.specs.Events.{init_event}
 use Rattle.office_types.specs.Fitting.{Fitted, ◌>>=◌}
 use Rattle.office_types.specs.Mailboxes.{has_letter_room, with_letter, with_letter_if_room}
 use Rattle.office_types.specs.Receivers.{receiver_of}
-use Rattle.office_types.specs.Records.{active_actors, parent_of, record_of, with_actor}
+use Rattle.office_types.specs.Records.{active_actors, parent_actor, actor_record, with_actor}
 use Rattle.office_types.specs.SystemNames.{with_holder, holder_of}
 use Rattle.office_types.specs.Timers.{without_id, with_scheduled}
 
@@ -113,7 +113,7 @@ has_actor_room state = nat_lt (active_actors state) MAX_ACTIVE_ACTORS && nat_lt 
 -- of the levels above
 unfoldable pub is_within_levels : OfficeState → ℕ → ℕ → Bool
 is_within_levels state zero number = false
-is_within_levels state (suc levels) number = option_map_or (is_within_levels state levels) (parent_of state number) true
+is_within_levels state (suc levels) number = option_map_or (is_within_levels state levels) (parent_actor state number) true
 
 -- one level more may stand below the actor
 abbrev pub has_level_below : OfficeState → ℕ → Bool
@@ -154,13 +154,13 @@ abbrev pub without_kid : List ℕ → ActorRecord → ActorRecord
 without_kid id actor = record actor { kids = filter (λ (kid : List ℕ × ℕ). not (bytes_eq kid.0 id)) actor.kids }
 
 -- the child of an actor with this id
-abbrev pub child_of : OfficeState → ℕ → List ℕ → Option ℕ
-child_of state number id = option_and_then (λ (actor : ActorRecord). lookup (bytes_eq id) actor.kids) (record_of state number)
+abbrev pub child_named : OfficeState → ℕ → List ℕ → Option ℕ
+child_named state number id = option_and_then (λ (actor : ActorRecord). lookup (bytes_eq id) actor.kids) (actor_record state number)
 
 -- the child with this id is removed with all below it; where no child has the id nothing is
 abbrev pub after_stop : ℕ → List ℕ → OfficeState → OfficeState
 after_stop number id state =
-    option_map_or (λ (child : ℕ). with_actor (removed child state) number (without_kid id)) (child_of state number id) state
+    option_map_or (λ (child : ℕ). with_actor (removed child state) number (without_kid id)) (child_named state number id) state
 
 -- ---- effects one after the other
 

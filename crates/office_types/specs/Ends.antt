@@ -13,7 +13,7 @@ use Rattle.office_types.specs.declared.office.Timer.{Timer}
 use Rattle.office_types.specs.Events.{done_event, error_event}
 use Rattle.office_types.specs.Fitting.{Fitted}
 use Rattle.office_types.specs.Mailboxes.{with_letter_if_room, with_letter}
-use Rattle.office_types.specs.Records.{record_of, parent_of, is_active}
+use Rattle.office_types.specs.Records.{actor_record, parent_actor, is_active}
 use Rattle.office_types.specs.SystemNames.{without_holder}
 use Rattle.office_types.specs.Timers.{without_owner}
 
@@ -83,21 +83,21 @@ after_end end number state =
 abbrev pub child_id : OfficeState → ℕ → ℕ → List ℕ
 child_id state parent number =
     option_map_or (λ (actor : ActorRecord). option_map_or (λ (kid : List ℕ × ℕ). kid.0) (find (λ (kid : List ℕ × ℕ). nat_eq kid.1 number) actor.kids) [])
-    (record_of state parent) []
+    (actor_record state parent) []
 
 -- a letter to an actor's parent, if it has one; its event is made of the actor's child id
 abbrev pub with_letter_to_parent : OfficeState → ℕ → (List ℕ → Value) → OfficeState
 with_letter_to_parent state number event =
-    option_map_or (λ (parent : ℕ). with_letter state (origin.Actor number) parent (event (child_id state parent number))) (parent_of state number) state
+    option_map_or (λ (parent : ℕ). with_letter state (origin.Actor number) parent (event (child_id state parent number))) (parent_actor state number) state
 
 -- how many letters tell an actor's parent something: one, if it has a parent
 abbrev pub letters_to_parent : OfficeState → ℕ → ℕ
-letters_to_parent state number = option_map_or (λ (parent : ℕ). 1) (parent_of state number) 0
+letters_to_parent state number = option_map_or (λ (parent : ℕ). 1) (parent_actor state number) 0
 
 -- the same, if the letter finds room and a number
 abbrev pub after_telling_parent : OfficeState → ℕ → (List ℕ → Value) → Fitted
 after_telling_parent state number event =
-    option_map_or (λ (parent : ℕ). with_letter_if_room state (origin.Actor number) parent (event (child_id state parent number))) (parent_of state number) (Ok state)
+    option_map_or (λ (parent : ℕ). with_letter_if_room state (origin.Actor number) parent (event (child_id state parent number))) (parent_actor state number) (Ok state)
 
 -- an actor gets done, and tells its parent
 abbrev pub after_done : ℕ → Value → OfficeState → Fitted

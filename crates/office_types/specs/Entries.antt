@@ -16,7 +16,7 @@ use Rattle.office_types.specs.Limits.{is_event}
 use Rattle.office_types.specs.Observation.{own_of}
 use Rattle.office_types.specs.Outcomes.{IsAllowedOutcome}
 use Rattle.office_types.specs.OwnParts.{IsOwnPart}
-use Rattle.office_types.specs.Records.{is_ready, record_of}
+use Rattle.office_types.specs.Records.{is_ready, actor_record}
 use Rattle.office_types.specs.RequestLines.{IsRequest}
 use Rattle.office_types.specs.Step.{took}
 
@@ -34,7 +34,7 @@ IsAllowedMacrostep definitions macrostep =
 
 -- the letter that an actor takes next
 abbrev pub head_of : OfficeState → ℕ → Option Letter
-head_of state number = option_and_then (λ (actor : ActorRecord). slice_get actor.mailbox 0) (record_of state number)
+head_of state number = option_and_then (λ (actor : ActorRecord). slice_get actor.mailbox 0) (actor_record state number)
 
 -- the outcome of an actor's next step
 abbrev pub next_outcome : Macrostep → OfficeState → ℕ → Option Outcome

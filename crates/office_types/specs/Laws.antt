@@ -25,7 +25,7 @@ use Rattle.office_types.specs.Entries.{AreLegal, IsAllowedMacrostep, Macrostep, 
 use Rattle.office_types.specs.JsonValues.{MeansValue}
 use Rattle.office_types.specs.Observation.{own_of}
 use Rattle.office_types.specs.Outcomes.{IsAllowedOutcome}
-use Rattle.office_types.specs.Records.{empty_office, is_active_machine, is_ready, record_of}
+use Rattle.office_types.specs.Records.{empty_office, is_active_machine, is_ready, actor_record}
 use Rattle.office_types.specs.RequestLines.{IsEntryText, IsRequest, IsRequestLine, canonical_line, entry_text}
 use Rattle.office_types.specs.Requests.{IsNumber}
 use Rattle.office_types.specs.Step.{took}
@@ -98,7 +98,7 @@ LettersWaitedBefore =
 
 -- the letters that wait for an actor
 abbrev pub mailbox_of : OfficeState → ℕ → List Letter
-mailbox_of state number = option_map_or (λ (actor : ActorRecord). actor.mailbox) (record_of state number) []
+mailbox_of state number = option_map_or (λ (actor : ActorRecord). actor.mailbox) (actor_record state number) []
 
 -- records rise by number, and letters do in each mailbox; the numbers of both were given, and no letter has the
 -- number of another one

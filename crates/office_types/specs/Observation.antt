@@ -13,12 +13,12 @@ use Rattle.office_types.specs.Ends.{after_telling_parent, child_id}
 use Rattle.office_types.specs.Events.{snapshot_event}
 use Rattle.office_types.specs.Fitting.{Fitted}
 use Rattle.office_types.specs.Limits.{is_short}
-use Rattle.office_types.specs.Records.{record_of, parent_of}
+use Rattle.office_types.specs.Records.{actor_record, parent_actor}
 use Rattle.office_types.specs.StateValue.{state_value}
 
 -- the own part of a machine actor
 abbrev pub own_of : OfficeState → ℕ → Option Own
-own_of state number = option_and_then (λ (actor : ActorRecord). actor.own) (record_of state number)
+own_of state number = option_and_then (λ (actor : ActorRecord). actor.own) (actor_record state number)
 
 -- an active node has an invocation with `onSnapshot` of this id
 abbrev pub observes : OfficeDefinitions → Own → List ℕ → Bool
@@ -28,7 +28,7 @@ observes definitions own id = list_any (λ (node : ℕ). list_any (bytes_eq id) 
 abbrev pub is_observed : OfficeDefinitions → OfficeState → ℕ → Bool
 is_observed definitions state number =
     option_map_or (λ (parent : ℕ). option_map_or (λ (own : Own). observes definitions own (child_id state parent number)) (own_of state parent) false)
-    (parent_of state number) false
+    (parent_actor state number) false
 
 -- the context and the state value of an own part
 abbrev pub snapshot_of : OfficeDefinitions → Own → Value

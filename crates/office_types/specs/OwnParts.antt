@@ -19,7 +19,7 @@ pub record IsConfiguration (nodes : Nodes) (active : List ℕ) : Type 0 where
   pub legal : IsLegal nodes (Contains active)
 
 -- what history nodes recorded, in document order; each record fits a legal configuration of its own
-pub record IsHistory (nodes : Nodes) (history : History) : Type 0 where
+pub record IsRecordedHistory (nodes : Nodes) (history : History) : Type 0 where
   pub in_order : IsStrictlyIncreasing (history_nodes history)
   pub fit : IsFitHistory nodes history
 
@@ -42,15 +42,15 @@ pub record AreChildIds (ids : List (List ℕ)) : Type 0 where
 pub record HasBegun (nodes : Nodes) (own : Own) : Type 0 where
   pub begun : own.begun ≡ true
   pub configuration : IsConfiguration nodes own.nodes
-  pub history : IsHistory nodes own.history
+  pub history : IsRecordedHistory nodes own.history
   pub context : IsContext own.context
   pub children : AreChildIds own.children
   pub unnamed : own.unnamed ≤ MAX_NEXT_NUMBER
 
 -- an own part that hasn't begun is empty, with context null
-abbrev pub IsFresh : Own → Type 0
-IsFresh own = own ≡ fresh_own own.def
+abbrev pub IsUnbegun : Own → Type 0
+IsUnbegun own = own ≡ fresh_own own.def
 
 -- an own part of a machine with these nodes
 abbrev pub IsOwnPart : Nodes → Own → Type 0
-IsOwnPart nodes own = IsFresh own ⊎ HasBegun nodes own
+IsOwnPart nodes own = IsUnbegun own ⊎ HasBegun nodes own

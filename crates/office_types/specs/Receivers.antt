@@ -7,7 +7,7 @@ use Rattle.office_types.specs.declared.office.ActorRecord.{ActorRecord}
 use Rattle.office_types.specs.declared.office.OfficeState.{OfficeState}
 use Rattle.office_types.specs.declared.outcome.To.{To}
 use Rattle.office_types.specs.declared.outcome.To.TheVariants as to
-use Rattle.office_types.specs.Records.{record_of, is_active_machine}
+use Rattle.office_types.specs.Records.{actor_record, is_active_machine}
 use Rattle.office_types.specs.SystemNames.{holder_of}
 
 -- whom a target names, if anybody
@@ -24,4 +24,4 @@ if_active_machine state number = if is_active_machine state number then Some num
 -- the actor to which a send goes; what goes to nobody is a dead letter
 abbrev pub receiver_of : OfficeState → ℕ → To → Option ℕ
 receiver_of state number target =
-    option_and_then (if_active_machine state) (option_and_then (λ (actor : ActorRecord). named_by state actor target) (record_of state number))
+    option_and_then (if_active_machine state) (option_and_then (λ (actor : ActorRecord). named_by state actor target) (actor_record state number))

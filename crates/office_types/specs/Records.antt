@@ -21,8 +21,8 @@ empty_office = record {
 }
 
 -- the record of an actor
-abbrev pub record_of : OfficeState → ℕ → Option ActorRecord
-record_of state number = find (λ (actor : ActorRecord). nat_eq actor.number number) state.actors
+abbrev pub actor_record : OfficeState → ℕ → Option ActorRecord
+actor_record state number = find (λ (actor : ActorRecord). nat_eq actor.number number) state.actors
 
 -- the office with the record of one actor changed
 abbrev pub with_actor : OfficeState → ℕ → (ActorRecord → ActorRecord) → OfficeState
@@ -46,11 +46,11 @@ is_active actor = is_active_status actor.status
 
 -- the number is that of a machine actor that is active
 abbrev pub is_active_machine : OfficeState → ℕ → Bool
-is_active_machine state number = option_map_or (λ (actor : ActorRecord). is_active actor && is_some actor.own) (record_of state number) false
+is_active_machine state number = option_map_or (λ (actor : ActorRecord). is_active actor && is_some actor.own) (actor_record state number) false
 
 -- the number is that of a work item that is open
 abbrev pub is_open_item : OfficeState → ℕ → Bool
-is_open_item state number = option_map_or (λ (actor : ActorRecord). is_active actor && is_some actor.item) (record_of state number) false
+is_open_item state number = option_map_or (λ (actor : ActorRecord). is_active actor && is_some actor.item) (actor_record state number) false
 
 -- an actor is ready: it is an active machine actor, and a letter waits for it
 abbrev pub is_ready_actor : ActorRecord → Bool
@@ -58,12 +58,12 @@ is_ready_actor actor = is_active actor && (is_some actor.own && nat_lt 0 (length
 
 -- the number is that of a ready actor
 abbrev pub is_ready : OfficeState → ℕ → Bool
-is_ready state number = option_map_or is_ready_actor (record_of state number) false
+is_ready state number = option_map_or is_ready_actor (actor_record state number) false
 
 -- how many actors are active
 abbrev pub active_actors : OfficeState → ℕ
 active_actors state = length (filter is_active state.actors)
 
 -- the parent of an actor
-abbrev pub parent_of : OfficeState → ℕ → Option ℕ
-parent_of state number = option_and_then (λ (actor : ActorRecord). actor.parent) (record_of state number)
+abbrev pub parent_actor : OfficeState → ℕ → Option ℕ
+parent_actor state number = option_and_then (λ (actor : ActorRecord). actor.parent) (actor_record state number)

@@ -55,10 +55,10 @@ active_nodes nodes [] = []
 active_nodes nodes (n ∷ later) = with_node nodes n (active_nodes nodes later)
 
 -- the value of the first one, the root; before the first step there is none, and the value is null
-abbrev pub root_value : List ActiveNode → Value
-root_value [] = value.Null
-root_value (root ∷ others) = root.value
+abbrev pub first_value : List ActiveNode → Value
+first_value [] = value.Null
+first_value (root ∷ others) = root.value
 
 -- the state value of a configuration
 abbrev pub state_value : List Node → List ℕ → Value
-state_value nodes configuration = root_value (active_nodes nodes configuration)
+state_value nodes configuration = first_value (active_nodes nodes configuration)

@@ -28,7 +28,7 @@ use Rattle.office_types.specs.Events.{event_type, init_type}
 use Rattle.office_types.specs.Limits.{is_event, is_name, is_short}
 use Rattle.office_types.specs.Mailboxes.{waiting_letters}
 use Rattle.office_types.specs.OwnParts.{IsOwnPart}
-use Rattle.office_types.specs.Records.{active_actors, is_active, is_active_machine, record_of}
+use Rattle.office_types.specs.Records.{active_actors, is_active, is_active_machine, actor_record}
 
 -- a number that was given before the next one
 abbrev pub IsGiven : ℕ → ℕ → Type 0
@@ -103,14 +103,14 @@ is_kid number kid = nat_eq kid.1 number
 -- a parent has a record and a smaller number, lists the child once, and is active if the child is
 pub record IsChildOf (state : OfficeState) (actor : ActorRecord) (number : ℕ) : Type 0 where
   pub parent : ActorRecord
-  pub record' : record_of state number ≡ Some parent
+  pub record' : actor_record state number ≡ Some parent
   pub smaller : number < actor.number
   pub listed : count_by (is_kid actor.number) parent.kids ≡ 1
   pub active : is_active actor ≡ true → is_active parent ≡ true
 
 -- each listed child has a record with this parent
 abbrev pub HasParent : OfficeState → ℕ → ℕ → Type 0
-HasParent state parent child = option_and_then (λ (actor : ActorRecord). actor.parent) (record_of state child) ≡ Some parent
+HasParent state parent child = option_and_then (λ (actor : ActorRecord). actor.parent) (actor_record state child) ≡ Some parent
 
 -- the record of an actor
 pub record IsActor (definitions : OfficeDefinitions) (state : OfficeState) (actor : ActorRecord) : Type 0 where
