@@ -8,7 +8,7 @@ use Rattle.std.proofs.lemmas.List.Sums.{sum_by-append}
 use Rattle.office_types.specs.declared.office.ActorRecord.{ActorRecord}
 use Rattle.office_types.specs.declared.office.OfficeState.{OfficeState}
 use Rattle.office_types.specs.Effects.{is_within_levels, with_kid}
-use Rattle.office_types.specs.Ends.{has_parent_among, is_among, subtree_of}
+use Rattle.office_types.specs.Ends.{has_parent_among, is_among}
 use Rattle.office_types.specs.Records.{is_active}
 use Rattle.office_types.specs.ValidOffice.{IsGiven, is_kid}
 use Rattle.office_types.proofs.ValidityListLemmas.{Rises, change_at, at_number, at_same, count_none, each_look, each_map, each_mono, each_push, look, look_each, look_map, look_none, look_number, look_push, pairs_map, pairs_push, rises_at}
@@ -73,10 +73,6 @@ add_below found actor = if has_parent_among found actor then found ++ actor.numb
 -- those found, and all below them
 abbrev pub all_below : List ActorRecord → List ℕ → List ℕ
 all_below actors found = fold add_below found actors
-
-pub subtree_is : (state : OfficeState) (n : ℕ) → subtree_of state n ≡ all_below state.actors (n ∷ [])
-unfolding subtree_of
-subtree_is state n = refl
 
 among_push : (found : List ℕ) (c n : ℕ) → is_among (found ++ c ∷ []) n ≡ (is_among found n || is_among (c ∷ []) n)
 among_push [] c n = refl

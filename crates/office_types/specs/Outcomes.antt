@@ -35,11 +35,12 @@ pub record IsSpawn (definitions : OfficeDefinitions) (ids : List (List ℕ)) (id
   pub short : IsTrue (is_short input)
   pub system_name : IfSome system (λ name. IsTrue (is_name name))
 
--- an effect of a step of an actor whose children have these ids
+-- an effect of a step of an actor whose children have these ids; what is cancelled may have any id, since
+-- a node that is left cancels what its delays may have scheduled, whether anything stands or not
 abbrev pub IsAllowedEffect : OfficeDefinitions → List (List ℕ) → Effect → Type 0
 IsAllowedEffect definitions ids (effect.Send to event) = IsSent event
 IsAllowedEffect definitions ids (effect.Schedule id delay to event) = IfSome id (λ id. IsTrue (is_name id)) × (delay ≤ MAX_MOMENT) × IsTimed event
-IsAllowedEffect definitions ids (effect.Cancel id) = IsTrue (is_name id)
+IsAllowedEffect definitions ids (effect.Cancel id) = Unit {0}
 IsAllowedEffect definitions ids (effect.Spawn id src input system) = IsSpawn definitions ids id src input system
 IsAllowedEffect definitions ids (effect.Stop id) = list_any (bytes_eq id) ids ≡ true
 
