@@ -1,6 +1,6 @@
 -- What entries make of the replies that are kept for callers.
-use Rattle.std.proofs.Common.{◌≡◌, ◌≢◌, ℕ, suc, zero, ◌+◌, ◌-◌, ◌<◌, ◌≤◌, Bool, true, false, not, ◌&&◌, List, [], ◌∷◌, ◌++◌, length, map, refl, sym, ap, subst, ◌∙◌, arith, append_assoc, length-append, add-one}
-use Rattle.std.specs.Prelude.{Option, None, Some, Result, Ok, Err, find, filter, fold, nat_eq, nat_le, nat_lt, slice_get, if◌then◌else◌, ⊤}
+use Rattle.std.proofs.Common.{◌≡◌, ℕ, suc, zero, ◌+◌, ◌-◌, ◌<◌, Bool, true, false, not, List, [], ◌∷◌, ◌++◌, length, refl, sym, ap, subst, ◌∙◌, arith, length-append}
+use Rattle.std.specs.Prelude.{Option, None, Some, Ok, Err, find, fold, nat_eq, nat_lt, slice_get, if◌then◌else◌, ⊤}
 use Rattle.std.specs.List.{range_with_len}
 use Rattle.std.specs.Option.{option_map_or, option_and_then, option_or}
 use Rattle.std.specs.Result.{result_unwrap_or}
@@ -29,17 +29,17 @@ use Rattle.office_types.specs.declared.request.Reply.{Reply}
 use Rattle.office_types.specs.declared.request.Request.{Request}
 use Rattle.office_types.specs.declared.request.Word.{Word}
 use Rattle.office_types.specs.declared.request.Word.TheVariants as word
-use Rattle.office_types.specs.Decisions.{Decision, Row, after_grant, answer_by, caller_of, callers_row, decided, decision_by, entries_row, first_row, gap_row, grant, next_number, refusal, repeat_row, replies_row, replies_to, row_if, undecided, with_reply}
-use Rattle.office_types.specs.Definitions.{ActorLogic, OfficeDefinitions, machine_named}
-use Rattle.office_types.specs.Effects.{after_cancel, after_effect, after_effects, after_schedule, after_send, after_spawn, after_stop, child_named, has_actor_room, has_level_below, first_letters, is_name_held, timer_now, with_child, with_logic, with_timer_if_room, has_timer_room}
-use Rattle.office_types.specs.Ends.{after_done, after_end, after_failure, after_telling_parent, done_record, error_record, removed, with_letter_to_parent}
-use Rattle.office_types.specs.Entries.{AreLegal, IsLegalEntry, Macrostep, after, after_entry, next_outcome}
+use Rattle.office_types.specs.Decisions.{Row, after_grant, caller_of, callers_row, decided, decision_by, entries_row, first_row, gap_row, grant, next_number, refusal, repeat_row, replies_row, replies_to, row_if, undecided, with_reply}
+use Rattle.office_types.specs.Definitions.{OfficeDefinitions, machine_named}
+use Rattle.office_types.specs.Effects.{after_effect, after_effects, after_schedule, after_send, after_spawn, after_stop, child_named, has_actor_room, has_level_below, first_letters, is_name_held, timer_now, has_timer_room}
+use Rattle.office_types.specs.Ends.{after_end, after_failure, after_telling_parent, done_record, error_record, removed}
+use Rattle.office_types.specs.Entries.{AreLegal, Macrostep, after, after_entry, next_outcome}
 use Rattle.office_types.specs.Events.{done_event, error_event, fault_error}
 use Rattle.office_types.specs.Fitting.{Fitted, ◌>>=◌}
 use Rattle.office_types.specs.Laws.{RepeatsGetTheReply, RequestsStandOnce, numbers_of}
-use Rattle.office_types.specs.Mailboxes.{has_letter_room, with_letter_if_room, without_head}
+use Rattle.office_types.specs.Mailboxes.{has_letter_room, without_head}
 use Rattle.office_types.specs.Moment.{after_advance, with_delivery}
-use Rattle.office_types.specs.Observation.{after_observation, is_observed, short_snapshot_event, snapshot_of}
+use Rattle.office_types.specs.Observation.{is_observed, short_snapshot_event, snapshot_of}
 use Rattle.office_types.specs.Receivers.{receiver_of}
 use Rattle.office_types.specs.Records.{is_active_machine, parent_actor}
 use Rattle.office_types.specs.Step.{after_conclusion, after_outcome, or_failure, took, with_own}

@@ -1,11 +1,10 @@
 -- A plain value is what its compact text means: a tree for each value that prints the text.
-use Rattle.std.proofs.Common.{add-zero, zero-add, ◌≡◌, ◌≢◌, ℕ, suc, zero, ◌+◌, ◌-◌, ◌*◌, ◌/◌, ◌%◌, ◌^◌, ◌<◌, ◌≤◌, Bool, true, false, cond, not, ◌&&◌, ◌==◌, List, [], ◌∷◌, ◌++◌, length, get_or, map, max, ℤ, pos, negsuc, refl, sym, ap, subst, ◌∙◌, inl, inr, arith, rules, append_assoc, append-nil, w64, FitsSigned}
-use Rattle.std.specs.Prelude.{nat_lt, nat_le, decimal, IsUtf8, fold, ⊤}
-use Rattle.std.specs.Char.{IsScalar, encode_utf8, digit_char, digit_value, is_digit}
-use Rattle.std.specs.declared.cmp.Ordering.{Ordering}
+use Rattle.std.proofs.Common.{add-zero, zero-add, ◌≡◌, ℕ, suc, zero, ◌+◌, ◌-◌, ◌*◌, ◌/◌, ◌%◌, ◌^◌, ◌<◌, ◌≤◌, Bool, true, false, cond, not, ◌&&◌, ◌==◌, List, [], ◌∷◌, ◌++◌, length, get_or, map, max, ℤ, pos, negsuc, refl, sym, ap, subst, ◌∙◌, inl, inr, arith, rules, append_assoc, append-nil, w64, FitsSigned}
+use Rattle.std.specs.Prelude.{nat_lt, nat_le, decimal, IsUtf8, fold}
+use Rattle.std.specs.Char.{IsScalar, encode_utf8, digit_char, digit_value}
 use Rattle.std.specs.declared.cmp.Ordering.TheVariants.{Less, Greater}
 use Rattle.std.specs.Fmt.{signed_decimal}
-use Rattle.std.specs.List.{AllByRecursion, flat_map, join_with_byte, list_all, range_with_len}
+use Rattle.std.specs.List.{AllByRecursion, join_with_byte, list_all, range_with_len}
 use Rattle.std.specs.List.Sorted.{IsStrictlySortedBy}
 use Rattle.std.specs.Map.{keys_of}
 use Rattle.std.specs.Ordering.{ordering_reverse}

@@ -1,6 +1,6 @@
 -- The canonical line of a request is a line of it, and the text of an entry reads as the entry.
-use Rattle.std.proofs.Common.{◌≡◌, ℕ, ◌+◌, ◌^◌, ◌<◌, ◌≤◌, Bool, true, false, ◌&&◌, List, [], ◌∷◌, ◌++◌, length, refl, sym, ap, subst, ◌∙◌, arith, length-append}
-use Rattle.std.specs.Prelude.{Option, None, Some, IfSome, IsTrue, codes, decimal, nat_le, nat_lt}
+use Rattle.std.proofs.Common.{◌≡◌, ℕ, ◌^◌, ◌<◌, ◌≤◌, true, ◌&&◌, List, [], ◌∷◌, ◌++◌, length, refl, sym, ap, subst, ◌∙◌, arith, length-append}
+use Rattle.std.specs.Prelude.{Option, None, Some, IfSome, codes, decimal, nat_le, nat_lt}
 use Rattle.std.proofs.lemmas.Bool.Decides.{nat_tests}
 use Rattle.std.proofs.lemmas.Fmt.{decimal_injective, length-decimal-le}
 use Rattle.xs_model.specs.declared.value.Value.{Value}
@@ -8,15 +8,14 @@ use Rattle.xs_model.specs.Compact.{compact_text, nesting}
 use Rattle.office_types.specs.declared.entry.Entry.{Entry}
 use Rattle.office_types.specs.declared.entry.Entry.TheVariants.{Decided, Step}
 use Rattle.xs_model.specs.declared.limits.TheConstants.{MAX_EVENT_TEXT, MAX_NAME, MAX_NESTING}
-use Rattle.office_types.specs.declared.limits.TheConstants.{MAX_CALLER, MAX_LINE, MAX_MOMENT}
+use Rattle.office_types.specs.declared.limits.TheConstants.{MAX_CALLER, MAX_MOMENT}
 use Rattle.office_types.specs.declared.request.Ask.{Ask}
 use Rattle.office_types.specs.declared.request.Ask.TheVariants as ask
-use Rattle.office_types.specs.declared.request.Request.{Request}
 use Rattle.office_types.specs.Callers.{is_caller, is_caller_byte, is_lowercase}
 use Rattle.std.specs.List.{list_all}
 use Rattle.office_types.specs.Laws.{CanonicalLinesAreLines, EntriesReadBack, IsEntry}
 use Rattle.office_types.specs.Limits.{is_name, is_short}
-use Rattle.office_types.specs.RequestLines.{IsEntryText, IsRequest, IsRequestLine, RequestIsUnique, SpellsValue, ask_parts, ask_value, ask_word, canonical_json, canonical_line, entry_text, spaced, system_text}
+use Rattle.office_types.specs.RequestLines.{IsEntryText, IsRequestLine, RequestIsUnique, SpellsValue, ask_parts, ask_value, ask_word, canonical_json, canonical_line, entry_text, spaced, system_text}
 use Rattle.office_types.specs.Requests.{HasAskForm, IsSystemName}
 use Rattle.office_types.proofs.CanonicalLemmas.{compact_text_means}
 use Rattle.office_types.proofs.LineLemmas.{and_both}

@@ -1,12 +1,11 @@
 -- What every change of an office keeps, where each kind of change does.
-use Rattle.std.proofs.Common.{◌≡◌, ℕ, Bool, true, false, not, List, [], ◌∷◌, refl, sym, subst}
-use Rattle.std.specs.Prelude.{Option, None, Some, Result, Ok, Err, fold, slice_get, if◌then◌else◌, ⊤}
+use Rattle.std.proofs.Common.{ℕ, Bool, true, false, not, List, [], ◌∷◌}
+use Rattle.std.specs.Prelude.{Option, None, Some, Ok, Err, fold, slice_get, if◌then◌else◌, ⊤}
 use Rattle.std.specs.Option.{option_map_or}
 use Rattle.std.specs.Result.{result_unwrap_or}
 use Rattle.xs_model.specs.declared.value.Value.{Value}
 use Rattle.office_types.specs.declared.entry.Entry.{Entry}
 use Rattle.office_types.specs.declared.entry.Entry.TheVariants.{Decided, Step}
-use Rattle.office_types.specs.declared.office.ActorRecord.{ActorRecord}
 use Rattle.office_types.specs.declared.office.Caller.{Caller}
 use Rattle.office_types.specs.declared.office.Item.{Item}
 use Rattle.office_types.specs.declared.office.OfficeState.{OfficeState}
@@ -22,18 +21,17 @@ use Rattle.office_types.specs.declared.outcome.Own.{Own}
 use Rattle.office_types.specs.declared.outcome.To.{To}
 use Rattle.office_types.specs.declared.request.Ask.{Ask}
 use Rattle.office_types.specs.declared.request.Ask.TheVariants as ask
-use Rattle.office_types.specs.declared.request.Reply.{Reply}
 use Rattle.office_types.specs.declared.request.Request.{Request}
-use Rattle.office_types.specs.Decisions.{Row, after_grant, answer_by, decided, decision_by, grant, refusal, undecided, with_reply}
+use Rattle.office_types.specs.Decisions.{Row, after_grant, answer_by, decided, decision_by, refusal, undecided}
 use Rattle.office_types.specs.Definitions.{ActorLogic, OfficeDefinitions, machine_named}
-use Rattle.office_types.specs.Effects.{after_cancel, after_effect, after_effects, after_schedule, after_send, after_spawn, after_stop, child_named, first_letters, fresh_own, fresh_record, has_actor_room, has_level_below, has_timer_room, is_name_held, timer_now, with_child, with_kid, with_logic, with_machine, with_record, without_kid}
+use Rattle.office_types.specs.Effects.{after_effect, after_effects, after_schedule, after_send, after_spawn, after_stop, child_named, first_letters, fresh_own, fresh_record, has_actor_room, has_level_below, has_timer_room, is_name_held, timer_now, with_kid, with_logic, with_machine, with_record, without_kid}
 use Rattle.office_types.specs.Ends.{after_end, after_failure, after_telling_parent, child_id, done_record, error_record, removed}
 use Rattle.office_types.specs.Entries.{Macrostep, after, after_entry, next_outcome}
 use Rattle.office_types.specs.Events.{done_event, error_event, fault_error}
 use Rattle.office_types.specs.Fitting.{Fitted, ◌>>=◌}
 use Rattle.office_types.specs.Mailboxes.{has_letter_room, with_letter, without_head}
 use Rattle.office_types.specs.Moment.{after_advance, with_delivery}
-use Rattle.office_types.specs.Observation.{after_observation, is_observed, short_snapshot_event, snapshot_of}
+use Rattle.office_types.specs.Observation.{is_observed, short_snapshot_event, snapshot_of}
 use Rattle.office_types.specs.Receivers.{receiver_of}
 use Rattle.office_types.specs.Records.{is_active_machine, parent_actor, with_actor}
 use Rattle.office_types.specs.Step.{after_conclusion, after_outcome, or_failure, took, with_entry, with_own}

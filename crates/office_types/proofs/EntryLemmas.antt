@@ -1,6 +1,6 @@
 -- Lemmas on the texts of entries.
-use Rattle.std.proofs.Common.{◌≡◌, ◌≢◌, ℕ, List, [], ◌∷◌, ◌++◌, true, false, refl, sym, ap, subst, ◌∙◌}
-use Rattle.std.specs.Prelude.{Result, Ok, Err, codes, decimal, IsTrue, ◌↔◌}
+use Rattle.std.proofs.Common.{◌≡◌, ◌≢◌, ℕ, List, ◌++◌, true, false, refl, sym, ap, subst, ◌∙◌}
+use Rattle.std.specs.Prelude.{Result, Err, codes, decimal}
 use Rattle.std.proofs.lemmas.Slice.Eq.{bytes_eq-Decides}
 use Rattle.office_types.specs.declared.entry.Entry.{Entry}
 use Rattle.office_types.specs.declared.entry.Entry.TheVariants.{Decided, Step}
@@ -8,7 +8,7 @@ use Rattle.office_types.specs.declared.line_fault.LineFault.{LineFault}
 use Rattle.office_types.specs.declared.line_fault.LineFault.TheVariants.{NotALine}
 use Rattle.office_types.specs.declared.request.Request.{Request}
 use Rattle.office_types.specs.LineParts.{IsCut, IsDecidedText, IsStepText}
-use Rattle.office_types.specs.RequestLines.{IsEntryText, IsRequestLine, Reads, RequestIsUnique, canonical_line, entry_text}
+use Rattle.office_types.specs.RequestLines.{IsEntryText, IsRequestLine, Reads, RequestIsUnique, canonical_line}
 use Rattle.office_types.proofs.LineLemmas.{IsCut-unique}
 use Rattle.office_types.proofs.RequestLemmas.{reads_as}
 

@@ -1,6 +1,6 @@
 -- What a text means is plain: its numbers fit 64 bits, its texts are in UTF-8, and the keys of its maps rise.
-use Rattle.std.proofs.Common.{◌≡◌, ◌⊎◌, ◌||◌, ◌==◌, inl, inr, cond, zero, ℕ, suc, ◌+◌, ◌^◌, ◌<◌, ◌≤◌, Bool, true, false, ◌&&◌, List, [], ◌∷◌, ◌++◌, length, map, ℤ, pos, negsuc, refl, sym, ap, subst, ◌∙◌, arith, rules, w64, FitsSigned}
-use Rattle.std.specs.Prelude.{IsUtf8, fold, nat_le, nat_lt, ⊤}
+use Rattle.std.proofs.Common.{◌≡◌, ◌⊎◌, ◌||◌, ◌==◌, inl, inr, cond, zero, ℕ, suc, ◌+◌, ◌^◌, ◌<◌, Bool, true, false, ◌&&◌, List, [], ◌∷◌, ◌++◌, length, map, ℤ, pos, negsuc, refl, sym, ap, subst, ◌∙◌, arith, rules, w64, FitsSigned}
+use Rattle.std.specs.Prelude.{IsUtf8, fold}
 use Rattle.std.specs.Char.{IsScalar, digit_value, encode_utf8, is_digit}
 use Rattle.std.proofs.lemmas.Bool.{eqb-true}
 use Rattle.std.proofs.lemmas.Bool.Decides.{nat_tests}
@@ -11,12 +11,8 @@ use Rattle.std.specs.declared.cmp.Ordering.TheVariants.{Less, Equal, Greater}
 use Rattle.std.specs.Ordering.{match_ordering}
 use Rattle.std.proofs.Math.Utf8.{encodes, scalars}
 use Rattle.std.specs.Cmp.Derive.{both_true}
-use lib.Utf8.{scalar}
 use Rattle.ordered_json.specs.Grammar.{AreChars, AreElements, AreMembers, Char, CodeUnit, Elements, IsChar, IsTree, Members, Tree, are_hex, array, boolean, coded, element, escape_value, escaped, is_high_surrogate, is_low_surrogate, member, no_elements, no_members, null, number, object, paired, plain, print, print_colon, print_separator, print_string, string, unit_value}
 use Rattle.ordered_json.specs.Meaning.{ElementsTaken, IsTaken, MembersTaken, char_value, fits, int_value, items_at, magnitude, members_at, string_content, value_at}
-use Rattle.ordered_json.specs.declared.json.Member.{Member}
-use Rattle.ordered_json.specs.declared.json.OrderedJson.{OrderedJson}
-use Rattle.ordered_json.specs.Words.{member_of}
 use Rattle.ordered_json.proofs.StringLemmas.{and_true, pair_scalar, unit_scalar, digit_below}
 use Rattle.xs_model.specs.declared.value.Value.{Value}
 use Rattle.xs_model.specs.declared.value.Value.TheOpen.{Value-F}
@@ -25,7 +21,7 @@ use Rattle.xs_model.specs.declared.value.Value.TheVariants.{rolls-Null, rolls-Bo
 use Rattle.xs_model.specs.Rising.{KeysRise, key_cmp, put}
 use Rattle.xs_model.proofs.PartLemmas.{every_from_parts}
 use Rattle.xs_model.proofs.RisingLemmas.{rises_put}
-use Rattle.office_types.specs.JsonValues.{json_value, members_value}
+use Rattle.office_types.specs.JsonValues.{json_value}
 use Rattle.office_types.specs.Laws.{IsPlain, IsPlainLayer, MeantValuesArePlain}
 use Rattle.office_types.proofs.CanonicalLemmas.{member_is}
 use Rattle.office_types.proofs.ValueLemmas.{json-Bool, json-Int, json-List, json-Null, json-Object, json-Text, json_member}

@@ -1,12 +1,11 @@
 -- Lemmas on a line as the line of a request.
-use Rattle.std.proofs.Common.{◌≡◌, ◌≢◌, ℕ, ◌^◌, ◌<◌, ◌≤◌, Bool, true, false, List, [], ◌∷◌, ◌++◌, length, refl, sym, ap, subst, ◌∙◌, arith, append_assoc}
-use Rattle.std.specs.Prelude.{Result, Ok, Err, Option, None, Some, IsTrue, IfSome, decimal, codes, is_some, IsErrAnd}
+use Rattle.std.proofs.Common.{◌≡◌, ◌≢◌, ℕ, ◌^◌, ◌<◌, ◌≤◌, true, false, List, [], ◌∷◌, ◌++◌, length, refl, sym, ap, subst, ◌∙◌, arith, append_assoc}
+use Rattle.std.specs.Prelude.{Result, Ok, Err, Option, None, Some, IfSome, decimal, codes, is_some, IsErrAnd}
 use Rattle.std.proofs.lemmas.Fmt.{decimal_injective}
 use Rattle.ordered_json.specs.declared.fault.JsonFault.{JsonFault}
 use Rattle.ordered_json.specs.declared.fault.JsonFault.TheVariants as faults
-use Rattle.ordered_json.specs.declared.json.OrderedJson.{OrderedJson}
 use Rattle.ordered_json.specs.Laws.{MeaningIsUnique}
-use Rattle.ordered_json.specs.Meaning.{Means, IsMeaningless}
+use Rattle.ordered_json.specs.Meaning.{IsMeaningless}
 use Rattle.xs_model.specs.declared.value.Value.{Value}
 use Rattle.xs_model.specs.Compact.{compact_text}
 use Rattle.std.specs.Borrow.{Bor}
@@ -17,13 +16,12 @@ use Rattle.office_types.specs.declared.request.Ask.TheVariants as ask
 use Rattle.office_types.specs.declared.request.Request.{Request}
 use Rattle.office_types.specs.declared.line_fault.LineFault.{LineFault}
 use Rattle.office_types.specs.declared.line_fault.LineFault.TheVariants.{NotALine, Memory}
-use Rattle.office_types.specs.Callers.{is_caller}
 use Rattle.office_types.specs.Events.{event_type}
 use Rattle.office_types.specs.JsonValues.{MeansValue, json_value}
 use Rattle.office_types.specs.Limits.{is_short}
 use Rattle.office_types.specs.LineParts.{IsAskBehind, IsAskText, IsCallerText, IsCut, IsNameText, IsNumberedText, IsShortText, IsSystemText, SpellsNumber, is_spaceless, line_fault}
-use Rattle.office_types.specs.RequestLines.{IsRequestLine, Reads, RequestIsUnique, SpellsValue, ask_parts, ask_value, ask_word, canonical_json, canonical_line, line_with, spaced, system_text}
-use Rattle.office_types.specs.Requests.{HasAskForm, HasRequestForm, IsNumber, IsSystemName, IsVisibleName}
+use Rattle.office_types.specs.RequestLines.{IsRequestLine, Reads, RequestIsUnique, ask_parts, ask_value, ask_word, canonical_json, canonical_line, line_with, spaced, system_text}
+use Rattle.office_types.specs.Requests.{IsNumber, IsSystemName, IsVisibleName}
 use Rattle.office_types.proofs.LineLemmas.{IsCut-unique, spaceless_caller, spaceless_decimal, spaceless_visible}
 
 -- ---- reading

@@ -15,7 +15,7 @@ use Rattle.xs_model.specs.declared.value.Value.{Value, the_lemmas}
 use Rattle.xs_model.specs.declared.value.Value.TheOpen.{Value-F}
 use Rattle.xs_model.specs.declared.value.Value.TheVariants as value
 use Rattle.xs_model.specs.declared.value.Value.TheVariants.{rolls-Null, rolls-Bool, rolls-Int, rolls-Text, rolls-List, rolls-Map}
-use Rattle.xs_model.specs.Compact.{bracketed_text, compact_text, greatest_depth, keyed_text, nesting}
+use Rattle.xs_model.specs.Compact.{compact_text, greatest_depth, keyed_text, nesting}
 use Rattle.xs_model.specs.Rising.{put}
 use Rattle.xs_model.proofs.CompactLemmas.{compact-List, compact-Map}
 use Rattle.xs_model.proofs.PartLemmas.{by_parts, Parts}

@@ -1,7 +1,7 @@
 -- How actors end, and how they are removed.
-use Rattle.std.specs.Prelude.{ℕ, Bool, true, false, not, List, [], ◌∷◌, ◌++◌, map, fold, filter, find, Option, None, Some, Result, Ok, Err, unwrap_or, nat_eq, if◌then◌else◌}
+use Rattle.std.specs.Prelude.{ℕ, Bool, false, not, List, [], ◌∷◌, ◌++◌, map, fold, filter, find, None, Ok, nat_eq, if◌then◌else◌}
 use Rattle.std.specs.List.{list_any}
-use Rattle.std.specs.Option.{option_map_or, option_map}
+use Rattle.std.specs.Option.{option_map_or}
 use Rattle.std.specs.Result.{result_unwrap_or}
 use Rattle.xs_model.specs.declared.value.Value.{Value}
 use Rattle.office_types.specs.declared.office.ActorRecord.{ActorRecord}

@@ -1,5 +1,5 @@
 -- Entries one after the other, and which are legal.
-use Rattle.std.specs.Prelude.{◌≡◌, ℕ, ◌<◌, List, [], ◌∷◌, length, take, Option, None, IsTrue, slice_get}
+use Rattle.std.specs.Prelude.{◌≡◌, ℕ, ◌<◌, List, [], ◌∷◌, length, Option, None, IsTrue, slice_get}
 use Rattle.std.specs.Option.{option_map, option_map_or, option_and_then}
 use Rattle.xs_model.specs.declared.value.Value.{Value}
 use Rattle.office_types.specs.declared.entry.Entry.{Entry}

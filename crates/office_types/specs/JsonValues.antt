@@ -1,5 +1,5 @@
 -- The value that a JSON text means.
-use Rattle.std.specs.Prelude.{◌≡◌, ℕ, List, [], fold, map}
+use Rattle.std.specs.Prelude.{◌≡◌, ℕ, List, [], fold}
 use Rattle.xs_model.specs.declared.value.Value.{Value}
 use Rattle.xs_model.specs.declared.value.Value.TheVariants as value
 use Rattle.xs_model.specs.Rising.{put}

@@ -1,7 +1,7 @@
 -- The parts of a line, by which its reader goes.
-use Rattle.std.specs.Prelude.{◌≡◌, ℕ, ◌≤◌, Bool, false, not, ◌&&◌, ◌==◌, nat_le, List, [], ◌∷◌, ◌++◌, Option, None, Some, IfSome, IsTrue, codes, decimal, is_some}
+use Rattle.std.specs.Prelude.{◌≡◌, ℕ, Bool, false, not, ◌&&◌, ◌==◌, List, [], ◌∷◌, ◌++◌, Option, None, Some, IsTrue, codes, decimal}
 use Rattle.std.specs.List.{list_all}
-use Rattle.xs_data.specs.Ascii.{space, digit_zero, digit_nine}
+use Rattle.xs_data.specs.Ascii.{space, digit_zero}
 use Rattle.xs_model.specs.declared.value.Value.{Value}
 use Rattle.ordered_json.specs.declared.fault.JsonFault.{JsonFault}
 use Rattle.office_types.specs.declared.entry.Entry.{Entry}

@@ -1,5 +1,5 @@
 -- Letters enter mailboxes at their ends, and get the next numbers.
-use Rattle.std.specs.Prelude.{ℕ, ◌+◌, Bool, ◌&&◌, List, [], ◌∷◌, ◌++◌, length, drop, sum_by, Result, Ok, Err, nat_le, if◌then◌else◌}
+use Rattle.std.specs.Prelude.{ℕ, ◌+◌, Bool, ◌&&◌, [], ◌∷◌, ◌++◌, length, drop, sum_by, Ok, Err, nat_le, if◌then◌else◌}
 use Rattle.xs_model.specs.declared.value.Value.{Value}
 use Rattle.office_types.specs.declared.limits.TheConstants.{MAX_LETTERS, MAX_NEXT_NUMBER}
 use Rattle.office_types.specs.declared.office.ActorRecord.{ActorRecord}

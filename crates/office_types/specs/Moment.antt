@@ -1,5 +1,5 @@
 -- The advance of an office's moment.
-use Rattle.std.specs.Prelude.{ℕ, List, length, filter, fold, if◌then◌else◌}
+use Rattle.std.specs.Prelude.{ℕ, length, filter, fold, if◌then◌else◌}
 use Rattle.office_types.specs.declared.office.OfficeState.{OfficeState}
 use Rattle.office_types.specs.declared.office.Origin.TheVariants as origin
 use Rattle.office_types.specs.declared.office.Timer.{Timer}

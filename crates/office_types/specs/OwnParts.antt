@@ -1,5 +1,5 @@
 -- Which own parts an actor of a machine may have.
-use Rattle.std.specs.Prelude.{◌≡◌, ◌≢◌, ◌⊎◌, ℕ, ◌≤◌, Bool, true, false, List, [], IsTrue, All, AllPairs, Contains}
+use Rattle.std.specs.Prelude.{◌≡◌, ◌≢◌, ◌⊎◌, ℕ, ◌≤◌, Bool, true, false, List, IsTrue, All, AllPairs, Contains}
 use Rattle.std.specs.List.Sorted.{IsStrictlyIncreasing}
 use Rattle.xs_model.specs.declared.value.Value.{Value, out-Value}
 use Rattle.xs_model.specs.declared.value.Value.TheOpen.{Value-F}

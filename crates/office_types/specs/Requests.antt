@@ -1,7 +1,6 @@
 -- What callers may ask for.
-use Rattle.std.specs.Prelude.{◌≡◌, ◌≢◌, ℕ, ◌<◌, ◌≤◌, ◌^◌, List, length, Option, None, Some, codes, All, IsTrue, IsUtf8, is_some, IfSome}
+use Rattle.std.specs.Prelude.{◌≢◌, ℕ, ◌<◌, ◌≤◌, ◌^◌, List, codes, All, IsTrue, IsUtf8, is_some, IfSome}
 use Rattle.xs_data.specs.Ascii.{space}
-use Rattle.xs_model.specs.declared.value.Value.{Value}
 use Rattle.office_types.specs.declared.limits.TheConstants.{MAX_MOMENT}
 use Rattle.office_types.specs.declared.request.Ask.{Ask}
 use Rattle.office_types.specs.declared.request.Ask.TheVariants as ask

@@ -1,6 +1,5 @@
 -- One step of an actor, for a given outcome of its macrostep.
-use Rattle.std.specs.Prelude.{ℕ, ◌+◌, Option, Some, Result, Ok, Err}
-use Rattle.xs_model.specs.declared.value.Value.{Value}
+use Rattle.std.specs.Prelude.{ℕ, ◌+◌, Some, Ok, Err}
 use Rattle.office_types.specs.declared.office.ActorRecord.{ActorRecord}
 use Rattle.office_types.specs.declared.office.OfficeState.{OfficeState}
 use Rattle.office_types.specs.declared.outcome.End.{End}

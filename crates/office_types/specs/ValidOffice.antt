@@ -1,10 +1,9 @@
 -- Which states an office may be in.
-use Rattle.std.specs.Prelude.{◌≡◌, ◌≢◌, ℕ, ◌<◌, ◌≤◌, Bool, true, false, MatchBool, ◌&&◌, List, [], ◌∷◌, length, map, Option, None, Some, IsTrue, IfSome, All, AllPairs, Contains, if◌then◌else◌, option_to_list, count_by, nat_eq}
+use Rattle.std.specs.Prelude.{◌≡◌, ◌≢◌, ℕ, ◌<◌, ◌≤◌, Bool, true, false, MatchBool, ◌&&◌, List, [], ◌∷◌, length, map, Option, None, Some, IsTrue, IfSome, All, AllPairs, Contains, option_to_list, count_by, nat_eq}
 use Rattle.std.specs.Option.{option_map_or, option_and_then}
 use Rattle.std.specs.List.{flat_map}
 use Rattle.std.specs.List.Sorted.{IsStrictlyIncreasing}
 use Rattle.std.specs.Str.{bytes_eq}
-use Rattle.xs_model.specs.declared.value.Value.{Value}
 use Rattle.xs_model.specs.declared.value.Value.TheVariants.{Null}
 use Rattle.office_types.specs.declared.limits.TheConstants.{MAX_ACTIVE_ACTORS, MAX_CALLERS, MAX_ENTRIES, MAX_LETTERS, MAX_MOMENT, MAX_NEXT_NUMBER, MAX_REPLIES, MAX_TIMERS, MAX_TREE_LEVELS}
 use Rattle.office_types.specs.declared.office.ActorRecord.{ActorRecord}

@@ -26,7 +26,6 @@ use Rattle.office_types.specs.declared.request.Ask.{Ask}
 use Rattle.office_types.specs.declared.request.Ask.TheVariants as ask
 use Rattle.office_types.specs.declared.request.Reply.{Reply}
 use Rattle.office_types.specs.declared.request.Request.{Request}
-use Rattle.office_types.specs.declared.request.Word.{Word}
 use Rattle.office_types.specs.declared.request.Word.TheVariants as word
 use Rattle.office_types.specs.Decisions.{decided, reply_with}
 use Rattle.office_types.specs.Definitions.{ActorLogic, MachineOutline, OfficeDefinitions}

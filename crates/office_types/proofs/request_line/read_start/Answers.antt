@@ -1,4 +1,4 @@
-use Rattle.std.proofs.Common.{◌≡◌, ◌++◌, ◌∷◌, List, ℕ, sym, subst}
+use Rattle.std.proofs.Common.{sym, subst}
 use Rattle.std.specs.Prelude.{codes, Err}
 use Rattle.office_types.specs.declared.line_fault.LineFault.{LineFault}
 use Rattle.office_types.specs.LineParts.{IsAskBehind, IsNameText, IsShortText, IsSystemText}
