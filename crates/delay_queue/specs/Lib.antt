@@ -1,0 +1,3 @@
+pub mod TimerKeys
+pub mod Queue
+pub mod Slots

@@ -1,0 +1,111 @@
+//! Numbers of timers, in the order of due, and by owner and id.
+
+ghost use Rattle.std.specs.Prelude.{◌≡◌, ◌<◌, ℕ, [], ◌∷◌, length, option_copied, IfOk, IfErr, IfSome, IfNone};
+ghost use Rattle.xs_model.specs.Rising.{key_cmp};
+ghost use Rattle.delay_queue.specs.TimerKeys.{due_key_in, DueKeysRise, id_order, IsDueAt, IsDueGap};
+ghost use Rattle.delay_queue.specs.TimerKeys.{IsNumberOf, IsOwnerAt, IsOwnerGap, NoneIsOf, owner_compared, owner_in, OwnerKeysRise};
+
+use crate::store::Store;
+use office_types::Timer;
+use std::cmp::Ordering;
+
+/// Where what is due then, of this number, is among numbers in the order of due, or where it would
+/// go.
+pub(crate) fn search_due(
+    store: &Store,
+    numbers: &[u64],
+    due: u64,
+    order: u64,
+) -> Result<usize, usize>
+    requires { DueKeysRise store.now.timers numbers.now }
+    ensures within { IfOk result (λ place. place < length numbers.now) }
+    ensures found { IfOk result (IsDueAt store.now.timers numbers.now due order) }
+    ensures absent { IfErr result (IsDueGap store.now.timers numbers.now due order) }
+{
+    numbers.binary_search_by(|number| compare_due(store, *number, due, order))
+}
+
+/// Where what has this owner, id and number is among numbers by owner and id, or where it would go.
+/// Of what has an id the number doesn't count.
+pub(crate) fn search_owner(
+    store: &Store,
+    numbers: &[u64],
+    owner: u64,
+    id: Option<&[u8]>,
+    order: u64,
+) -> Result<usize, usize>
+    requires { OwnerKeysRise store.now.timers numbers.now }
+    ensures within { IfOk result (λ place. place < length numbers.now) }
+    ensures found { IfOk result
+        (IsOwnerAt store.now.timers numbers.now owner (option_copied id.entry) order) }
+    ensures absent { IfErr result
+        (IsOwnerGap store.now.timers numbers.now owner (option_copied id.entry) order) }
+{
+    numbers.binary_search_by(|number| compare_owner(store, *number, owner, id, order))
+}
+
+/// The number of a timer of an owner, if it has one, among numbers by owner and id.
+pub(crate) fn any_of(store: &Store, numbers: &[u64], owner: u64) -> Option<u64>
+    requires { OwnerKeysRise store.now.timers numbers.now }
+    ensures some { IfSome result (IsNumberOf owner store.now.timers numbers.now) }
+    ensures none { IfNone result (NoneIsOf owner store.now.timers numbers.now) }
+{
+    match numbers.binary_search_by(|number| owner_of(store, *number).cmp(&owner)) {
+        Ok(place) => Some(numbers[place]),
+        Err(_) => None,
+    }
+}
+
+/// The bytes of a timer's id.
+pub(crate) fn id_of(timer: &Timer) -> Option<&[u8]>
+    ensures { option_copied result ≡ timer.now.id }
+{
+    match &timer.id {
+        Some(id) => Some(id.as_bytes()),
+        None => None,
+    }
+}
+
+/// How a timer's key stands to that of what is due then, of this number. A timer that isn't there has
+/// the empty key, which is below all others.
+fn compare_due(store: &Store, number: u64, due: u64, order: u64) -> Ordering
+    ensures { result ≡ key_cmp (due_key_in store.now.timers number) (due ∷ order ∷ []) }
+{
+    match store.find(number) {
+        None => Ordering::Less,
+        Some(timer) => timer.due.cmp(&due).then(timer.order.cmp(&order)),
+    }
+}
+
+/// How a timer's key stands to that of what has this owner, id and number.
+fn compare_owner(store: &Store, number: u64, owner: u64, id: Option<&[u8]>, order: u64) -> Ordering
+    ensures { result ≡ owner_compared store.now.timers number owner (option_copied id.entry) order }
+{
+    match store.find(number) {
+        None => Ordering::Less,
+        Some(timer) => timer
+            .owner
+            .cmp(&owner)
+            .then(compare_ids(id_of(timer), timer.order, id, order)),
+    }
+}
+
+/// The timers without an id stand before those with one, by their numbers.
+fn compare_ids(id: Option<&[u8]>, order: u64, other_id: Option<&[u8]>, other: u64) -> Ordering
+    ensures { result
+        ≡ id_order (option_copied id.entry) order (option_copied other_id.entry) other }
+{
+    match (id, other_id) {
+        (None, None) => order.cmp(&other),
+        (None, Some(_)) => Ordering::Less,
+        (Some(_), None) => Ordering::Greater,
+        (Some(id), Some(other_id)) => id.cmp(other_id),
+    }
+}
+
+/// The owner of a timer; 0 where there is none.
+fn owner_of(store: &Store, number: u64) -> u64
+    ensures { result ≡ owner_in store.now.timers number }
+{
+    store.find(number).map_or(0, |timer| timer.owner)
+}

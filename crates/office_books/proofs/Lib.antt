@@ -1,0 +1,3 @@
+pub mod SortedLemmas
+pub mod ItemLemmas
+pub mod KeyIndexLemmas
