@@ -21,27 +21,33 @@ copy_crate() {
     done
 }
 
-# The text of a program, whose files have names here that the gate lets stand.
+# The text of a program, whose files have names here that the gate lets stand, in the folder of a crate.
 copy_program() {
-    cp -r "$top/bench/programs/$1/src" "$room/crates/$1"
-    find "$room/crates/$1/src" -name '*.rattle' -exec sh -c 'mv "$1" "${1%.rattle}.rt"' _ {} ';'
+    cp -r "$top/bench/programs/$1/src" "$room/crates/$2"
+    find "$room/crates/$2/src" -name '*.rattle' -exec sh -c 'mv "$1" "${1%.rattle}.rt"' _ {} ';'
 }
+
+# The crate of which a program is the `main`: that which its file `main_of` names, or one of its own.
+crate_of() { cat "$top/bench/programs/$1/main_of" 2>/dev/null || echo "$1"; }
 
 # A crate and those below it. One that neither list has is the toolchain's.
 assemble() {
-    local line below
-    if grep -q "^$1:" "$room/crates.txt"; then return; fi
+    local line below crate
+    crate=$(crate_of "$1")
+    if grep -q "^$crate:" "$room/crates.txt"; then return; fi
     line=$(grep -h "^$1:" "$top/bench/programs/programs.txt" "$top/crates.txt") || return 0
     for below in ${line#*:}; do assemble "$below"; done
-    echo "$line" >>"$room/crates.txt"
-    mkdir -p "$room/crates/$1"
-    rm -rf "$room/crates/$1/src" "$room/crates/$1/specs" "$room/crates/$1/proofs"
-    if [ -e "$top/bench/programs/$1" ]; then copy_program "$1"; else copy_crate "$1"; fi
+    echo "$crate:${line#*:}" >>"$room/crates.txt"
+    mkdir -p "$room/crates/$crate"
+    rm -rf "$room/crates/$crate/src" "$room/crates/$crate/specs" "$room/crates/$crate/proofs"
+    if [ ! -e "$top/bench/programs/$crate" ]; then copy_crate "$crate"; fi
+    if [ -e "$top/bench/programs/$1" ]; then copy_program "$1" "$crate"; fi
 }
 
 [ -e "$top/bench/programs/$name/src/main.rattle" ] || { say "no program $name in bench/programs"; exit 1; }
 assemble "$name"
-cd "$room/crates/$name"
+crate=$(crate_of "$name")
+cd "$room/crates/$crate"
 # The toolchain builds a program by running it; without words it measures nothing.
 rt run >"$room/build.log" 2>&1 </dev/null || { grep -E 'no proof|error' "$room/build.log" >&2; say "the whole log: $room/build.log"; exit 1; }
-echo "$room/crates/$name/out/$name"
+echo "$room/crates/$crate/out/$crate"

@@ -4,7 +4,7 @@ use Rattle.std.proofs.lemmas.List.{get_or-take, take_at, drop_at, append-nil}
 use Rattle.std.specs.List.{flat_map}
 use Rattle.std.specs.Prelude.{slice_index, All}
 use Rattle.gate_journal.specs.declared.parts.TheConstants.{HEAD, MAX_BASE}
-use Rattle.gate_journal.specs.Layout.{Content, IsSound, Holds, HasHead, HasShortHead, IsBadAt, IsClosed, IsRecordSize, record_text, head_text, side_text, places_from}
+use Rattle.gate_journal.specs.Layout.{Content, IsSound, HoldsContent, HasHead, HasShortHead, IsBadAt, IsClosed, IsRecordSize, record_text, head_text, side_text, places_from}
 use Rattle.gate_journal.specs.Opening.{IsFront}
 use Rattle.gate_journal.specs.Reading.{AddsBetween, BreaksAt, EndsAt}
 use Rattle.gate_journal.specs.Ready.{IsReady}
@@ -124,7 +124,7 @@ module _ (text : List ℕ) (generation size : ℕ) (head : HasHead generation si
           ∙ ap (λ l. places_from (HEAD + size) l) (sym adds.1.behind)
           ∙ ap (λ n. places_from n records) (sym (length-append (head_text generation (length base)) base ∙ omega (arith, length-head_text generation (length base), base_length)))
 
-      pub held_text : EndsAt text end → Holds content text
+      pub held_text : EndsAt text end → HoldsContent content text
       held_text ends = record {
         gate = ends.0;
         behind = ends.1;

@@ -11,8 +11,8 @@ use Rattle.xs_outside.specs.Disk.{Sides, on, other, Changes}
 use Rattle.gate_journal.specs.declared.parts.TheConstants.{OPEN, CLOSED}
 use Rattle.gate_journal.specs.declared.held.Held.{Held}
 use Rattle.gate_journal.specs.Gate.{IsOpening, StandsBehind}
-use Rattle.gate_journal.specs.Layout.{Content, Holds, IsRecordSize, four_bytes, record_text, head_text, side_text, places_from}
-use Rattle.gate_journal.specs.Sides.{content_of, first_place, IsHeldBy, IsBehind}
+use Rattle.gate_journal.specs.Layout.{Content, HoldsContent, IsRecordSize, length_bytes, record_text, head_text, side_text, places_from}
+use Rattle.gate_journal.specs.Sides.{held_content, first_place, IsHeldBy, IsBehind}
 use Rattle.gate_journal.specs.Journal.{text_length, added, without_last, HoldsEither}
 use Rattle.gate_journal.specs.Ready.{IsReady}
 use Rattle.gate_journal.proofs.TextLemmas.{length-record_text}
@@ -43,17 +43,17 @@ places_from-push place (first ∷ records) payload =
     )
 
 -- a side that holds something is open, and has a gate behind it
-pub held_is_open : (content : Content) (side : List ℕ) → Holds content side → IsReady side → ⊥
+pub held_is_open : (content : Content) (side : List ℕ) → HoldsContent content side → IsReady side → ⊥
 unfolding side_text head_text
 held_is_open content side holds ready = ready.1 ready.0 (ap (λ (l : List ℕ). get_or l 0 0) holds.text)
 
 -- what is written behind the gate of a record
 abbrev pub behind_gate : List ℕ → List ℕ
-behind_gate payload = four_bytes (length payload) ++ payload ++ CLOSED ∷ []
+behind_gate payload = length_bytes (length payload) ++ payload ++ CLOSED ∷ []
 
 -- ---- a side
 
-module _ (content : Content) (end : ℕ) (is : end ≡ length (side_text content)) (old : List ℕ) (holds : Holds content old) where
+module _ (content : Content) (end : ℕ) (is : end ≡ length (side_text content)) (old : List ℕ) (holds : HoldsContent content old) where
   text_in_front : take end old ≡ side_text content
   text_in_front = ap (λ (l : List ℕ). take end l) holds.text ∙ take_at (side_text content) (holds.gate ∷ holds.behind) end (sym is)
 
@@ -67,7 +67,7 @@ module _ (content : Content) (end : ℕ) (is : end ≡ length (side_text content
   end_inside = omega (arith, is, ap length holds.text, length-append (side_text content) (holds.gate ∷ holds.behind))
 
   -- what stands behind the gate doesn't count
-  pub held_behind : (new : List ℕ) → take (end + 1) new ≡ take (end + 1) old → Holds content new
+  pub held_behind : (new : List ℕ) → take (end + 1) new ≡ take (end + 1) old → HoldsContent content new
   held_behind new same = record {
     gate = holds.gate;
     behind = drop (end + 1) new;
@@ -77,7 +77,7 @@ module _ (content : Content) (end : ℕ) (is : end ≡ length (side_text content
   }
 
   -- a text behind another gate that isn't open
-  pub held_closed : (byte : ℕ) (text new : List ℕ) → byte ≢ OPEN → StandsBehind byte end text old new → Holds content new
+  pub held_closed : (byte : ℕ) (text new : List ℕ) → byte ≢ OPEN → StandsBehind byte end text old new → HoldsContent content new
   held_closed byte text new closed stands = record {
     gate = byte;
     behind = text ++ drop (end + 1 + length text) old;
@@ -88,7 +88,7 @@ module _ (content : Content) (end : ℕ) (is : end ≡ length (side_text content
 
   module _ (payload : List ℕ) (size : IsRecordSize (length payload)) where
     -- a record behind an open gate
-    pub held_opened : (new : List ℕ) → StandsBehind OPEN end (behind_gate payload) old new → Holds (with_record content payload) new
+    pub held_opened : (new : List ℕ) → StandsBehind OPEN end (behind_gate payload) old new → HoldsContent (with_record content payload) new
     unfolding record_text
     held_opened new stands =
         let rest = drop (end + 1 + length (behind_gate payload)) old in record {
@@ -105,7 +105,7 @@ module _ (content : Content) (end : ℕ) (is : end ≡ length (side_text content
         }
 
     -- an append that is on its way
-    pub held_on_the_way : (new : List ℕ) → IsOpening end (behind_gate payload) old new → Holds content new ⊎ Holds (with_record content payload) new
+    pub held_on_the_way : (new : List ℕ) → IsOpening end (behind_gate payload) old new → HoldsContent content new ⊎ HoldsContent (with_record content payload) new
     held_on_the_way new opening = elim opening [
       | inl behind ↦ inl (held_behind new behind)
       | inr stands ↦ elim (cases_eq stands.0 OPEN) [
@@ -117,21 +117,21 @@ module _ (content : Content) (end : ℕ) (is : end ≡ length (side_text content
 -- ---- both sides
 
 -- the places of one record more
-pub places_added : (held : Held) (payload : List ℕ) → held.places ≡ places_from (first_place (content_of held)) held.records
-    → held.places ++ text_length held ∷ [] ≡ places_from (first_place (content_of held)) (held.records ++ payload ∷ [])
+pub places_added : (held : Held) (payload : List ℕ) → held.places ≡ places_from (first_place (held_content held)) held.records
+    → held.places ++ text_length held ∷ [] ≡ places_from (first_place (held_content held)) (held.records ++ payload ∷ [])
 places_added held payload places =
     ap (λ l. l ++ text_length held ∷ []) places
-    ∙ ap (λ n. places_from (first_place (content_of held)) held.records ++ n ∷ []) (length-side_text (content_of held))
-    ∙ sym (places_from-push (first_place (content_of held)) held.records payload)
+    ∙ ap (λ n. places_from (first_place (held_content held)) held.records ++ n ∷ []) (length-side_text (held_content held))
+    ∙ sym (places_from-push (first_place (held_content held)) held.records payload)
 
 module _ (held : Held) (payload : List ℕ) (size : IsRecordSize (length payload)) (old : Sides) (is_held : IsHeldBy old held) (end : ℕ) (is : end ≡ text_length held) where
   still_behind : (new : Sides) → on (other held.side) new ≡ on (other held.side) old → IsBehind held.generation (on (other held.side) new)
   still_behind new same = subst (IsBehind held.generation) (sym same) is_held.behind
 
-  still_held : (new : Sides) → on (other held.side) new ≡ on (other held.side) old → Holds (content_of held) (on held.side new) → IsHeldBy new held
+  still_held : (new : Sides) → on (other held.side) new ≡ on (other held.side) old → HoldsContent (held_content held) (on held.side new) → IsHeldBy new held
   still_held new same holds = record { holds = holds; places = is_held.places; behind = still_behind new same }
 
-  now_added : (new : Sides) → on (other held.side) new ≡ on (other held.side) old → Holds (with_record (content_of held) payload) (on held.side new) → IsHeldBy new (added held payload)
+  now_added : (new : Sides) → on (other held.side) new ≡ on (other held.side) old → HoldsContent (with_record (held_content held) payload) (on held.side new) → IsHeldBy new (added held payload)
   now_added new same holds = record { holds = holds; places = places_added held payload is_held.places; behind = still_behind new same }
 
   -- each image of an append
@@ -139,7 +139,7 @@ module _ (held : Held) (payload : List ℕ) (size : IsRecordSize (length payload
       → HoldsEither (other held.side) old (Some held) (Some (added held payload)) image
   append_image image changes = record {
     other_side = changes.1;
-    held = elim (held_on_the_way (content_of held) end is (on held.side old) is_held.holds payload size (on held.side image) changes.0) [
+    held = elim (held_on_the_way (held_content held) end is (on held.side old) is_held.holds payload size (on held.side image) changes.0) [
       | inl before ↦ inl (still_held image changes.1 before)
       | inr after ↦ inr (now_added image changes.1 after)
     ];
@@ -147,7 +147,7 @@ module _ (held : Held) (payload : List ℕ) (size : IsRecordSize (length payload
 
   -- what an append leaves
   pub append_done : (new : Sides) → Changes held.side (StandsBehind OPEN end (behind_gate payload)) old new → IsHeldBy new (added held payload)
-  append_done new changes = now_added new changes.1 (held_opened (content_of held) end is (on held.side old) is_held.holds payload size (on held.side new) changes.0)
+  append_done new changes = now_added new changes.1 (held_opened (held_content held) end is (on held.side old) is_held.holds payload size (on held.side new) changes.0)
 
 -- which sides are ready, after a change of a side that wasn't and isn't
 pub still_ready : (changed side : Side) (old new : Sides) (flag : Bool) → (IsReady (on changed old) → ⊥) → (IsReady (on changed new) → ⊥) → on (other changed) new ≡ on (other changed) old
@@ -160,7 +160,7 @@ still_ready B B old new flag before after same is = (λ f. absurd (before (is.0 
 -- how long the text is with one record more, and without it
 pub text_length-added : (held : Held) (payload : List ℕ) → text_length (added held payload) ≡ text_length held + (5 + length payload)
 text_length-added held payload =
-    ap length (side_text-push (content_of held) payload) ∙ length-append (side_text (content_of held)) (record_text payload) ∙ ap (λ n. text_length held + n) (length-record_text payload)
+    ap length (side_text-push (held_content held) payload) ∙ length-append (side_text (held_content held)) (record_text payload) ∙ ap (λ n. text_length held + n) (length-record_text payload)
 
 pub text_length-without_added : (held : Held) (payload : List ℕ) → text_length (without_last (added held payload)) ≡ text_length held
 text_length-without_added held payload =

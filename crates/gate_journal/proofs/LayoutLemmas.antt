@@ -9,9 +9,9 @@ use Rattle.std.specs.Int.{w32, w64, from_be_bytes}
 use Rattle.std.specs.List.{flat_map}
 use Rattle.gate_journal.specs.declared.parts.TheConstants.{OPEN, HEAD, MAX_BASE, MAX_RECORD}
 use Rattle.gate_journal.specs.Laws.{OneLayout, EachSideHasOneLayout, HasLayout, closed, holding, bad}
-use Rattle.gate_journal.specs.Layout.{Content, IsSound, HasHead, HasBadBase, HasShortHead, HasWrongSize, IsClosed, IsCutShort, IsOpen, IsRecordSize, eight_bytes, four_bytes, head_text, record_text, side_text}
+use Rattle.gate_journal.specs.Layout.{Content, IsSound, HoldsContent, HasHead, HasBadBase, HasShortHead, HasWrongSize, IsClosed, EndsTooSoon, IsOpen, IsRecordSize, eight_bytes, length_bytes, head_text, record_text, side_text}
 use Rattle.gate_journal.proofs.FrontLemmas.{head_length}
-use Rattle.gate_journal.proofs.NumberLemmas.{length-eight_bytes, length-four_bytes, same_eight, same_four}
+use Rattle.gate_journal.proofs.NumberLemmas.{length-eight_bytes, length-length_bytes, same_eight, same_four}
 use Rattle.gate_journal.proofs.TextLemmas.{head_first, length-head_text, length-record_text, record_first, size_first}
 
 -- ---- lists that agree
@@ -25,17 +25,17 @@ same_front a b c d sizes same = (
 -- ---- records that agree
 
 -- no record stands at the front
-abbrev NoRecord : List ℕ → Type 0
+abbrev pub NoRecord : List ℕ → Type 0
 NoRecord text = (payload more : List ℕ) → IsRecordSize (length payload) → text ≡ record_text payload ++ more → ⊥
 
 same_record : (p q t u : List ℕ) → IsRecordSize (length p) → IsRecordSize (length q) → record_text p ++ t ≡ record_text q ++ u → (p ≡ q) × (t ≡ u)
 unfolding record_text
 same_record p q t u size_p size_q same =
-    let head_p = OPEN ∷ four_bytes (length p) in
-    let head_q = OPEN ∷ four_bytes (length q) in
+    let head_p = OPEN ∷ length_bytes (length p) in
+    let head_q = OPEN ∷ length_bytes (length q) in
     let split = sym (append_assoc head_p p t) ∙ same ∙ append_assoc head_q q u in
-    let heads = same_front head_p (p ++ t) head_q (q ++ u) (omega (arith, length-four_bytes (length p), length-four_bytes (length q))) split in
-    let fours : four_bytes (length p) ≡ four_bytes (length q) = ap (λ (l : List ℕ). drop 1 l) heads.0 in
+    let heads = same_front head_p (p ++ t) head_q (q ++ u) (omega (arith, length-length_bytes (length p), length-length_bytes (length q))) split in
+    let fours : length_bytes (length p) ≡ length_bytes (length q) = ap (λ (l : List ℕ). drop 1 l) heads.0 in
     let sizes = same_four (length p) (length q) (omega (arith, size_p.1)) (omega (arith, size_q.1)) fours in
     same_front p t q u sizes heads.1
 
@@ -52,11 +52,11 @@ same_records (r ∷ rs) (q ∷ qs) t u sound_r sound_q no_t no_u same =
     let rest = same_records rs qs t u (All-tail P r rs sound_r) (All-tail P q qs sound_q) no_t no_u first.1 in
     (λ i. first.0 i ∷ rest.0 i, rest.1)
 
-same_head : (g h s r : ℕ) (t u : List ℕ) → g < 2 ^ 64 → h < 2 ^ 64 → s < 2 ^ 32 → r < 2 ^ 32 → head_text g s ++ t ≡ head_text h r ++ u → (g ≡ h) × (s ≡ r) × (t ≡ u)
+pub same_head : (g h s r : ℕ) (t u : List ℕ) → g < 2 ^ 64 → h < 2 ^ 64 → s < 2 ^ 32 → r < 2 ^ 32 → head_text g s ++ t ≡ head_text h r ++ u → (g ≡ h) × (s ≡ r) × (t ≡ u)
 unfolding head_text
 same_head g h s r t u small_g small_h small_s small_r same =
     let heads = same_front (head_text g s) t (head_text h r) u (length-head_text g s ∙ sym (length-head_text h r)) same in
-    let parts = same_front (OPEN ∷ eight_bytes g) (four_bytes s) (OPEN ∷ eight_bytes h) (four_bytes r) (omega (arith, length-eight_bytes g, length-eight_bytes h)) heads.0 in
+    let parts = same_front (OPEN ∷ eight_bytes g) (length_bytes s) (OPEN ∷ eight_bytes h) (length_bytes r) (omega (arith, length-eight_bytes g, length-eight_bytes h)) heads.0 in
     (same_eight g h small_g small_h (ap (λ (l : List ℕ). drop 1 l) parts.0), same_four s r small_s small_r parts.1, heads.1)
 
 -- ---- what no record stands at the front of
@@ -65,18 +65,18 @@ no_record_in_nothing : NoRecord []
 no_record_in_nothing payload more size same =
     absurd (omega (arith, ap length same, length-append (record_text payload) more, length-record_text payload))
 
-open_first : (payload more : List ℕ) → record_text payload ++ more ≡ OPEN ∷ (four_bytes (length payload) ++ (payload ++ more))
+open_first : (payload more : List ℕ) → record_text payload ++ more ≡ OPEN ∷ (length_bytes (length payload) ++ (payload ++ more))
 unfolding record_text
-open_first payload more = append_assoc (OPEN ∷ four_bytes (length payload)) payload more
+open_first payload more = append_assoc (OPEN ∷ length_bytes (length payload)) payload more
 
 no_record_closed : (gate : ℕ) (behind : List ℕ) → gate ≢ OPEN → NoRecord (gate ∷ behind)
 no_record_closed gate behind other payload more size same =
     other (ap (λ (l : List ℕ). get_or l 0 0) (same ∙ open_first payload more))
 
-sized : (behind payload more rest : List ℕ) (size : ℕ) → size < 2 ^ 32 → behind ≡ four_bytes size ++ more → IsRecordSize (length payload) → OPEN ∷ behind ≡ record_text payload ++ rest → (size ≡ length payload) × (more ≡ payload ++ rest)
+sized : (behind payload more rest : List ℕ) (size : ℕ) → size < 2 ^ 32 → behind ≡ length_bytes size ++ more → IsRecordSize (length payload) → OPEN ∷ behind ≡ record_text payload ++ rest → (size ≡ length payload) × (more ≡ payload ++ rest)
 sized behind payload more rest size small is record_size same =
-    let tail : behind ≡ four_bytes (length payload) ++ (payload ++ rest) = ap (λ (l : List ℕ). drop 1 l) (same ∙ open_first payload rest) in
-    let parts = same_front (four_bytes size) more (four_bytes (length payload)) (payload ++ rest) (length-four_bytes size ∙ sym (length-four_bytes (length payload))) (sym is ∙ tail) in
+    let tail : behind ≡ length_bytes (length payload) ++ (payload ++ rest) = ap (λ (l : List ℕ). drop 1 l) (same ∙ open_first payload rest) in
+    let parts = same_front (length_bytes size) more (length_bytes (length payload)) (payload ++ rest) (length-length_bytes size ∙ sym (length-length_bytes (length payload))) (sym is ∙ tail) in
     (same_four size (length payload) small (omega (arith, record_size.1)) parts.0, parts.1)
 
 no_record_wrong : (behind : List ℕ) → HasWrongSize behind → NoRecord (OPEN ∷ behind)
@@ -84,7 +84,7 @@ no_record_wrong behind wrong payload more size same =
     let is = sized behind payload wrong.1 more wrong.0 wrong.2 wrong.3 size same in
     ⊎_elim (λ none. absurd (omega (arith, none, is.0, size.0))) (λ large. absurd (omega (arith, large, is.0, size.1))) wrong.4
 
-no_record_cut : (behind : List ℕ) → IsCutShort behind → NoRecord (OPEN ∷ behind)
+no_record_cut : (behind : List ℕ) → EndsTooSoon behind → NoRecord (OPEN ∷ behind)
 no_record_cut behind (inl short) payload more size same =
     absurd (omega (arith, short, ap length same, length-append (record_text payload) more, length-record_text payload))
 no_record_cut behind (inr cut) payload more size same =
@@ -108,20 +108,20 @@ same_side c d t u sound_c sound_d no_t no_u same =
 -- ---- what a layout says of its side
 
 -- the records end in a text at whose front no record stands
-abbrev Ending : Content → List ℕ → OneLayout → Type 0
+abbrev pub Ending : Content → List ℕ → OneLayout → Type 0
 Ending content tail one =
     ((tail ≡ []) × (one ≡ bad (length (side_text content))))
     ⊎ ((gate : ℕ) × (behind : List ℕ) × (tail ≡ gate ∷ behind) × (gate ≢ OPEN) × (one ≡ holding content))
-    ⊎ ((behind : List ℕ) × (tail ≡ OPEN ∷ behind) × (HasWrongSize behind ⊎ IsCutShort behind) × (one ≡ bad (length (side_text content))))
+    ⊎ ((behind : List ℕ) × (tail ≡ OPEN ∷ behind) × (HasWrongSize behind ⊎ EndsTooSoon behind) × (one ≡ bad (length (side_text content))))
 
 -- a side with a whole head and a base
-record HasTail (side : List ℕ) (one : OneLayout) : Type 0 where
-  content : Content
-  tail : List ℕ
-  sound : IsSound content
-  none : NoRecord tail
-  text : side ≡ side_text content ++ tail
-  ending : Ending content tail one
+pub record HasTail (side : List ℕ) (one : OneLayout) : Type 0 where
+  pub content : Content
+  pub tail : List ℕ
+  pub sound : IsSound content
+  pub none : NoRecord tail
+  pub text : side ≡ side_text content ++ tail
+  pub ending : Ending content tail one
 
 same_ending : (content : Content) (tail : List ℕ) (x y : OneLayout) → Ending content tail x → Ending content tail y → x ≡ y
 same_ending content tail x y (inl a) (inl b) = a.1 ∙ sym b.1
@@ -135,19 +135,22 @@ same_ending content tail x y (inr (inr a)) (inr (inl b)) = absurd (b.3 (ap (λ (
 same_ending content tail x y (inr (inr a)) (inr (inr b)) = a.3 ∙ sym b.3
 
 -- the four kinds of a side
-abbrev Kind : List ℕ → OneLayout → Type 0
+abbrev pub Kind : List ℕ → OneLayout → Type 0
 Kind side one = (IsClosed side × (one ≡ closed)) ⊎ (HasShortHead side × (one ≡ bad 1)) ⊎ (HasBadBase side × (one ≡ bad 9)) ⊎ HasTail side one
 
-kind_of : (side : List ℕ) (one : OneLayout) → HasLayout one side → Kind side one
-kind_of side closed is = inl (is, refl)
-kind_of side (holding content) holds = inr (inr (inr (record {
+holding_tail : (side : List ℕ) (content : Content) → HoldsContent content side → HasTail side (holding content)
+holding_tail side content holds = record {
   content = content;
   tail = holds.gate ∷ holds.behind;
   sound = holds.sound;
   none = no_record_closed holds.gate holds.behind holds.closed;
   text = holds.text;
   ending = inr (inl (holds.gate, holds.behind, refl, holds.closed, refl));
-})))
+}
+
+pub kind_of : (side : List ℕ) (one : OneLayout) → HasLayout one side → Kind side one
+kind_of side closed is = inl (is, refl)
+kind_of side (holding content) holds = inr (inr (inr (holding_tail side content holds)))
 kind_of side (bad place) (inl short) = inr (inl (short.0, ap bad short.1))
 kind_of side (bad place) (inr (inl base)) = inr (inr (inl (base.0, ap bad base.1)))
 kind_of side (bad place) (inr (inr (inl gate))) =
@@ -169,7 +172,7 @@ kind_of side (bad place) (inr (inr (inr broken))) = inr (inr (inr (record {
 })))
 
 -- a whole head is open
-head_is_open : (generation size : ℕ) (behind side : List ℕ) → HasHead generation size behind side → IsOpen side
+pub head_is_open : (generation size : ℕ) (behind side : List ℕ) → HasHead generation size behind side → IsOpen side
 unfolding head_text
 head_is_open generation size behind side head =
     (omega (arith, head_length generation size behind side head), ap (λ (l : List ℕ). get_or l 0 0) head.text)
@@ -184,6 +187,11 @@ tail_head side one is =
       size_fits = omega (arith, is.sound.base);
     }
 
+-- a side that holds a content begins with its head
+pub holds_head : (side : List ℕ) (content : Content) (holds : HoldsContent content side) → HasHead content.generation (length content.base) (content.base ++ (flat_map record_text content.records ++ (holds.gate ∷ holds.behind))) side
+unfolding holding_tail
+holds_head side content holds = tail_head side (holding content) (holding_tail side content holds)
+
 base_or_tail : (side : List ℕ) (one : OneLayout) → HasBadBase side → HasTail side one → ⊥
 base_or_tail side one base is =
     let head = tail_head side one is in
@@ -191,7 +199,7 @@ base_or_tail side one base is =
     let same = same_head base.0 is.content.generation base.1 (length is.content.base) base.2 tail base.3.generation_fits head.generation_fits base.3.size_fits head.size_fits (sym base.3.text ∙ head.text) in
     ⊎_elim (λ large. omega (arith, large, same.1, is.sound.base)) (λ past. omega (arith, past, same.1, ap length same.2, length-append is.content.base (flat_map record_text is.content.records ++ is.tail))) base.4
 
-agree : (side : List ℕ) (x y : OneLayout) → Kind side x → Kind side y → x ≡ y
+pub agree : (side : List ℕ) (x y : OneLayout) → Kind side x → Kind side y → x ≡ y
 agree side x y (inl a) (inl b) = a.1 ∙ sym b.1
 agree side x y (inl a) (inr (inl b)) = absurd (a.0 b.0.0.0 b.0.0.1)
 agree side x y (inl a) (inr (inr (inl b))) =
@@ -221,7 +229,7 @@ agree side x y (inr (inr (inr a))) (inr (inr (inr b))) =
 
 -- ---- each side of bytes has one
 
-abbrev AreBytes : List ℕ → Type 0
+abbrev pub AreBytes : List ℕ → Type 0
 AreBytes text = (i : ℕ) → get_or text i 0 < 256
 
 bytes_behind : (n : ℕ) (text : List ℕ) → AreBytes text → AreBytes (drop n text)
@@ -233,8 +241,8 @@ bytes_before n text bytes i = elim (cases_lt i n) [
   | inr past ↦ subst (λ b. b < 256) (sym (get_or_past (take n text) i 0 (omega (arith, past, length-take n text)))) (lit< tt)
 ]
 
-four_of : (text : List ℕ) → 4 ≤ length text → AreBytes text → (size : ℕ) × (size < 2 ^ 32) × (four_bytes size ≡ take 4 text)
-unfolding four_bytes
+four_of : (text : List ℕ) → 4 ≤ length text → AreBytes text → (size : ℕ) × (size < 2 ^ 32) × (length_bytes size ≡ take 4 text)
+unfolding length_bytes
 four_of text long bytes =
     let four = take 4 text in
     let are = bytes_before 4 text bytes in
@@ -253,22 +261,22 @@ record Records (text : List ℕ) : Type 0 where
   tail : List ℕ
   text_is : text ≡ flat_map record_text records ++ tail
   sound : All (λ p. IsRecordSize (length p)) records
-  why : (tail ≡ []) ⊎ ((gate : ℕ) × (behind : List ℕ) × (tail ≡ gate ∷ behind) × (gate ≢ OPEN)) ⊎ ((behind : List ℕ) × (tail ≡ OPEN ∷ behind) × (HasWrongSize behind ⊎ IsCutShort behind))
+  why : (tail ≡ []) ⊎ ((gate : ℕ) × (behind : List ℕ) × (tail ≡ gate ∷ behind) × (gate ≢ OPEN)) ⊎ ((behind : List ℕ) × (tail ≡ OPEN ∷ behind) × (HasWrongSize behind ⊎ EndsTooSoon behind))
 
-ends_here : (text : List ℕ) → ((text ≡ []) ⊎ ((gate : ℕ) × (behind : List ℕ) × (text ≡ gate ∷ behind) × (gate ≢ OPEN)) ⊎ ((behind : List ℕ) × (text ≡ OPEN ∷ behind) × (HasWrongSize behind ⊎ IsCutShort behind))) → Records text
+ends_here : (text : List ℕ) → ((text ≡ []) ⊎ ((gate : ℕ) × (behind : List ℕ) × (text ≡ gate ∷ behind) × (gate ≢ OPEN)) ⊎ ((behind : List ℕ) × (text ≡ OPEN ∷ behind) × (HasWrongSize behind ⊎ EndsTooSoon behind))) → Records text
 ends_here text why = record { records = []; tail = text; text_is = refl; sound = All-nil (λ p. IsRecordSize (length p)); why = why }
 
 -- behind an open gate: a record, or a fault
 step : (text : List ℕ) → 0 < length text → get_or text 0 0 ≡ OPEN → AreBytes text
-    → (HasWrongSize (drop 1 text) ⊎ IsCutShort (drop 1 text)) ⊎ ((payload behind : List ℕ) × IsRecordSize (length payload) × (text ≡ record_text payload ++ behind) × (length behind < length text) × AreBytes behind)
+    → (HasWrongSize (drop 1 text) ⊎ EndsTooSoon (drop 1 text)) ⊎ ((payload behind : List ℕ) × IsRecordSize (length payload) × (text ≡ record_text payload ++ behind) × (length behind < length text) × AreBytes behind)
 step text some first bytes = elim (cases_lt (length text) 5) [
   | inl short ↦ inl (inr (inl (omega (arith, short, length-drop 1 text))))
   | inr long ↦
       let four = four_of (drop 1 text) (omega (arith, long, length-drop 1 text)) (bytes_behind 1 text bytes) in
       let size = four.0 in
       let more = drop 5 text in
-      let whole : text ≡ OPEN ∷ (four_bytes size ++ more) = size_first text size long first four.2 in
-      let is : drop 1 text ≡ four_bytes size ++ more = ap (λ (l : List ℕ). drop 1 l) whole in
+      let whole : text ≡ OPEN ∷ (length_bytes size ++ more) = size_first text size long first four.2 in
+      let is : drop 1 text ≡ length_bytes size ++ more = ap (λ (l : List ℕ). drop 1 l) whole in
       elim (cases_lt 0 size) [
         | inr none ↦ inl (inl (size, more, four.1, is, inl (omega (arith, none))))
         | inl some_size ↦ elim (cases_lt MAX_RECORD size) [
@@ -331,7 +339,13 @@ behind_base side generation size head fits room bytes =
       | inr (inr fault) ↦ (bad (length (side_text content)), inr (inr (inr (content, fault.0, sound, whole ∙ ap (λ (l : List ℕ). side_text content ++ l) fault.1, fault.2, refl))))
     ]
 
-some_layout : (side : List ℕ) → AreBytes side → (one : OneLayout) × HasLayout one side
+pub whole_head : (side : List ℕ) → HEAD ≤ length side → get_or side 0 0 ≡ OPEN → AreBytes side → (generation size : ℕ) × HasHead generation size (drop HEAD side) side
+whole_head side long first bytes =
+    let generation = eight_of (drop 1 side) (omega (arith, long, length-drop 1 side)) (bytes_behind 1 side bytes) in
+    let size = four_of (drop 9 side) (omega (arith, long, length-drop 9 side)) (bytes_behind 9 side bytes) in
+    (generation.0, size.0, record { text = head_first side generation.0 size.0 long first generation.2 size.2; generation_fits = generation.1; size_fits = size.1 })
+
+pub some_layout : (side : List ℕ) → AreBytes side → (one : OneLayout) × HasLayout one side
 some_layout side bytes = elim (cases_lt (length side) 2) [
   | inl short ↦ (closed, λ two. absurd (omega (arith, short, two)))
   | inr two ↦ elim (cases_eq (get_or side 0 0) OPEN) [
@@ -339,21 +353,21 @@ some_layout side bytes = elim (cases_lt (length side) 2) [
     | inl first ↦ elim (cases_lt (length side) HEAD) [
       | inl short ↦ (bad 1, inl (((two, first), short), refl))
       | inr long ↦
-          let generation = eight_of (drop 1 side) (omega (arith, long, length-drop 1 side)) (bytes_behind 1 side bytes) in
-          let size = four_of (drop 9 side) (omega (arith, long, length-drop 9 side)) (bytes_behind 9 side bytes) in
-          let head : HasHead generation.0 size.0 (drop HEAD side) side = record { text = head_first side generation.0 size.0 long first generation.2 size.2; generation_fits = generation.1; size_fits = size.1 } in
-          elim (cases_lt MAX_BASE size.0) [
-            | inl large ↦ (bad 9, inr (inl ((generation.0, size.0, drop HEAD side, head, inl large), refl)))
-            | inr fits ↦ elim (cases_lt (length (drop HEAD side)) size.0) [
-              | inl past ↦ (bad 9, inr (inl ((generation.0, size.0, drop HEAD side, head, inr past), refl)))
-              | inr room ↦ behind_base side generation.0 size.0 head fits room bytes
+          let whole = whole_head side long first bytes in
+          let size = whole.1 in
+          let head = whole.2 in
+          elim (cases_lt MAX_BASE size) [
+            | inl large ↦ (bad 9, inr (inl ((whole.0, size, drop HEAD side, head, inl large), refl)))
+            | inr fits ↦ elim (cases_lt (length (drop HEAD side)) size) [
+              | inl past ↦ (bad 9, inr (inl ((whole.0, size, drop HEAD side, head, inr past), refl)))
+              | inr room ↦ behind_base side whole.0 size head fits room bytes
             ]
           ]
     ]
   ]
 ]
 
-are_bytes : (side : List ℕ) → All (λ byte. byte < 2 ^ 8) side → AreBytes side
+pub are_bytes : (side : List ℕ) → All (λ byte. byte < 2 ^ 8) side → AreBytes side
 are_bytes side bytes i = elim (cases_lt i (length side)) [
   | inl inside ↦ All-get_or (λ byte. byte < 2 ^ 8) side i 0 inside bytes
   | inr past ↦ subst (λ b. b < 256) (sym (get_or_past side i 0 past)) (lit< tt)

@@ -1,3 +1,4 @@
+pub mod AnswerLemmas
 pub mod DropLemmas
 pub mod FrontLemmas
 pub mod GateLemmas

@@ -10,11 +10,11 @@ use Rattle.gate_journal.specs.declared.opening.Choice.TheVariants as choice
 use Rattle.gate_journal.specs.declared.parts.TheConstants.{HEAD}
 use Rattle.gate_journal.specs.declared.window.Window.{Window}
 use Rattle.gate_journal.specs.Found.{picked}
-use Rattle.gate_journal.specs.Layout.{Holds, HasHead, IsBadAt}
+use Rattle.gate_journal.specs.Layout.{HoldsContent, HasHead, IsBadAt}
 use Rattle.gate_journal.specs.Opening.{ChoiceIs, IsFront, IsHeldText}
 use Rattle.gate_journal.specs.Reading.{Shows, left_behind}
 use Rattle.gate_journal.specs.Ready.{IsReady}
-use Rattle.gate_journal.specs.Sides.{content_of, AreBadAt, HasShortSide, HasEqualGenerations, IsBehind, IsHeldBy, SidesHold}
+use Rattle.gate_journal.specs.Sides.{held_content, AreBadAt, HasShortSide, HasEqualGenerations, IsBehind, IsHeldBy, SidesHold}
 use Rattle.gate_journal.proofs.FrontLemmas.{front_behind, front_closed, front_generation, front_head, front_ready, front_short, no_longer}
 
 pub front_of_window : (text : List ℕ) (window : Window) → window.place ≡ 0 → (left_behind window ≡ 0) ⊎ (HEAD ≤ length window.bytes.items) → Shows text window → IsFront window.bytes.items text
@@ -63,7 +63,7 @@ module _ (fronts sides : Sides) (a : IsFront fronts.a sides.a) (b : IsFront fron
 -- a text that is held, beside a side that comes behind
 pub held_by : (sides : Sides) (held : Held) (side : Side) (generation end : ℕ) → held.generation ≡ generation → IsHeldText held side end (on side sides) → IsBehind generation (on (other side) sides) → IsHeldBy sides held
 held_by sides held side generation end same text behind = record {
-  holds = subst (λ s. Holds (content_of held) (on s sides)) (sym text.on_side) text.holds;
+  holds = subst (λ s. HoldsContent (held_content held) (on s sides)) (sym text.on_side) text.holds;
   places = text.places;
   behind = subst (λ n. IsBehind n (on (other held.side) sides)) (sym same) (subst (λ s. IsBehind generation (on (other s) sides)) (sym text.on_side) behind);
 }

@@ -13,24 +13,24 @@ use Rattle.gate_journal.specs.declared.parts.TheConstants.{OPEN, CLOSED, MAX_BAS
 use Rattle.gate_journal.specs.declared.held.Held.{Held}
 use Rattle.gate_journal.specs.declared.journal.Current.{Current}
 use Rattle.gate_journal.specs.Gate.{BeginsWith, IsBeingMade}
-use Rattle.gate_journal.specs.Layout.{Content, Holds, IsClosed, IsRecordSize, four_bytes, eight_bytes, record_text, head_text, side_text}
-use Rattle.gate_journal.specs.Sides.{content_of, IsHeldBy, IsBehind, HasGeneration, SidesHold}
+use Rattle.gate_journal.specs.Layout.{Content, HoldsContent, IsClosed, IsRecordSize, length_bytes, eight_bytes, record_text, head_text, side_text}
+use Rattle.gate_journal.specs.Sides.{held_content, IsHeldBy, IsBehind, HasGeneration, SidesHold}
 use Rattle.gate_journal.specs.Ready.{IsReady}
 use Rattle.gate_journal.specs.Journal.{Knows, HoldsEither, switched, side_after, flag_after, text_length}
 use Rattle.gate_journal.proofs.TextLemmas.{length-head_text}
 
 -- what is written behind the gate of a side
 abbrev pub behind_side : ℕ → List ℕ → List ℕ
-behind_side generation base = eight_bytes generation ++ four_bytes (length base) ++ base ++ CLOSED ∷ []
+behind_side generation base = eight_bytes generation ++ length_bytes (length base) ++ base ++ CLOSED ∷ []
 
 -- what a side of this generation holds at first
 abbrev pub fresh : ℕ → List ℕ → Content
 fresh generation base = record { generation = generation; base = base; records = [] }
 
-pub held_made : (generation : ℕ) (base side : List ℕ) → generation < 2 ^ 64 → length base ≤ MAX_BASE → BeginsWith (behind_side generation base) side → Holds (fresh generation base) side
+pub held_made : (generation : ℕ) (base side : List ℕ) → generation < 2 ^ 64 → length base ≤ MAX_BASE → BeginsWith (behind_side generation base) side → HoldsContent (fresh generation base) side
 unfolding side_text head_text
 held_made generation base side fits short begins =
-    let front = OPEN ∷ eight_bytes generation ++ four_bytes (length base) ++ base in record {
+    let front = OPEN ∷ eight_bytes generation ++ length_bytes (length base) ++ base in record {
       gate = CLOSED;
       behind = begins.0;
       text = begins.1 ∙ append_assoc front (CLOSED ∷ []) begins.0 ∙ ap (λ (l : List ℕ). l ++ CLOSED ∷ begins.0) (sym (append-nil front));
@@ -39,7 +39,7 @@ held_made generation base side fits short begins =
     }
 
 -- a side that holds something has its generation
-pub has_generation : (content : Content) (side : List ℕ) → Holds content side → HasGeneration content.generation side
+pub has_generation : (content : Content) (side : List ℕ) → HoldsContent content side → HasGeneration content.generation side
 unfolding side_text
 has_generation content side holds =
     let records = flat_map record_text content.records in
@@ -71,7 +71,7 @@ module _ (base : List ℕ) (short : length base ≤ MAX_BASE) where
   made_held (Some held) old new fits holds changes = record {
     holds = held_made (held.generation + 1) base (on (other held.side) new) fits short changes.0;
     places = refl;
-    behind = inr (held.generation, subst (HasGeneration held.generation) (sym changes.1) (subst (λ s. HasGeneration held.generation (on s old)) (sym (other_other held.side)) (has_generation (content_of held) (on held.side old) holds.holds)), omega arith);
+    behind = inr (held.generation, subst (HasGeneration held.generation) (sym changes.1) (subst (λ s. HasGeneration held.generation (on s old)) (sym (other_other held.side)) (has_generation (held_content held) (on held.side old) holds.holds)), omega arith);
   }
 
   -- what was held still is
@@ -81,10 +81,10 @@ module _ (base : List ℕ) (short : length base ≤ MAX_BASE) where
   old_held None old new holds same (inr closed) = (closed, subst IsClosed (sym same) holds.1)
   old_held (Some held) old new holds same (inl as_before) =
       let kept = subst (λ s. on s new ≡ on s old) (other_other held.side) same in
-      record { holds = subst (Holds (content_of held)) (sym kept) holds.holds; places = holds.places; behind = subst (IsBehind held.generation) (sym as_before) holds.behind }
+      record { holds = subst (HoldsContent (held_content held)) (sym kept) holds.holds; places = holds.places; behind = subst (IsBehind held.generation) (sym as_before) holds.behind }
   old_held (Some held) old new holds same (inr closed) =
       let kept = subst (λ s. on s new ≡ on s old) (other_other held.side) same in
-      record { holds = subst (Holds (content_of held)) (sym kept) holds.holds; places = holds.places; behind = inl closed }
+      record { holds = subst (HoldsContent (held_content held)) (sym kept) holds.holds; places = holds.places; behind = inl closed }
 
   -- each image of a move
   pub switch_image : (held : Option Held) (old image : Sides) → (switched held base).generation < 2 ^ 64 → SidesHold held old → Changes (switched held base).side (IsBeingMade (behind_side (switched held base).generation base)) old image

@@ -8,12 +8,12 @@ use Rattle.xs_outside.specs.Disk.{Sides, DiskState, on}
 use Rattle.gate_journal.specs.declared.parts.TheConstants.{OPEN}
 use Rattle.gate_journal.specs.declared.scan.Stop.TheVariants as stop
 use Rattle.gate_journal.specs.declared.window.Window.{Window}
-use Rattle.gate_journal.specs.Layout.{IsRecordSize, four_bytes, record_text, places_from}
+use Rattle.gate_journal.specs.Layout.{IsRecordSize, length_bytes, record_text, places_from}
 use Rattle.gate_journal.specs.Reading.{Adds, AddsBetween, BreaksAt, EndsAt, ReadsOn, StopsAt, left_behind}
 use Rattle.gate_journal.proofs.HoldLemmas.{places_from-push}
 use Rattle.gate_journal.proofs.ReadLemmas.{reads_joined}
 use Rattle.gate_journal.proofs.TextLemmas.{length-record_text}
-use Rattle.gate_journal.proofs.NumberLemmas.{length-four_bytes}
+use Rattle.gate_journal.proofs.NumberLemmas.{length-length_bytes}
 
 -- ---- lists
 
@@ -67,7 +67,7 @@ pub payload_taken : (text : List ℕ) (at size : ℕ) (payload behind : List ℕ
 unfolding record_text
 payload_taken text at size payload behind is sized =
     ap (λ n. take n (drop (at + 5) text)) (omega arith)
-    ∙ ap (λ (l : List ℕ). take size l) (sym (drop-drop 5 at text) ∙ ap (λ (l : List ℕ). drop 5 l) (is ∙ append_assoc (OPEN ∷ four_bytes (length payload)) payload behind) ∙ drop_at (OPEN ∷ four_bytes (length payload)) (payload ++ behind) 5 (omega (arith, length-four_bytes (length payload))))
+    ∙ ap (λ (l : List ℕ). take size l) (sym (drop-drop 5 at text) ∙ ap (λ (l : List ℕ). drop 5 l) (is ∙ append_assoc (OPEN ∷ length_bytes (length payload)) payload behind) ∙ drop_at (OPEN ∷ length_bytes (length payload)) (payload ++ behind) 5 (omega (arith, length-length_bytes (length payload))))
     ∙ take_at payload behind size sized
 
 -- one record more
@@ -152,7 +152,7 @@ pub stops_at_bad : (text bytes : List ℕ) (place : ℕ) → bytes ≡ take (len
 stops_at_bad text bytes place shown at =
     let rest = drop (length bytes) (drop place text) in
     let wrong = at.2 in
-    inr (at.0 ++ rest, front_and_rest (drop place text) (OPEN ∷ at.0) (length bytes) (sym shown ∙ at.1), inl (wrong.0, wrong.1 ++ rest, wrong.2, ap (λ (l : List ℕ). l ++ rest) wrong.3 ∙ append_assoc (four_bytes wrong.0) wrong.1 rest, wrong.4))
+    inr (at.0 ++ rest, front_and_rest (drop place text) (OPEN ∷ at.0) (length bytes) (sym shown ∙ at.1), inl (wrong.0, wrong.1 ++ rest, wrong.2, ap (λ (l : List ℕ). l ++ rest) wrong.3 ∙ append_assoc (length_bytes wrong.0) wrong.1 rest, wrong.4))
 
 pub stops_at_last : (text bytes : List ℕ) (place : ℕ) → bytes ≡ take (length bytes) (drop place text) → place + length bytes ≡ length text → StopsAt stop.More bytes → BreaksAt text place
 stops_at_last text bytes place shown last at =

@@ -12,7 +12,7 @@ use Rattle.gate_journal.specs.declared.window.ReadRefused.TheVariants as read
 use Rattle.gate_journal.specs.declared.window.Window.{Window}
 use Rattle.gate_journal.specs.Layout.{side_text}
 use Rattle.gate_journal.specs.Ready.{IsReady}
-use Rattle.gate_journal.specs.Sides.{SidesHold, content_of}
+use Rattle.gate_journal.specs.Sides.{SidesHold, held_content}
 
 -- a read that was refused refuses the sides
 abbrev pub refused_sides : ReadRefused → SidesRefused
@@ -45,6 +45,6 @@ picked B a b = b
 -- what was found is what the sides hold
 pub record IsFound (found : Found) (sides : Sides) : Type 0 where
   pub hold : SidesHold found.held sides
-  pub ends : IfSome found.held (λ held. found.end ≡ length (side_text (content_of held)))
+  pub ends : IfSome found.held (λ held. found.end ≡ length (side_text (held_content held)))
   pub ready_a : IsTrue found.a_is_ready ↔ IsReady sides.a
   pub ready_b : IsTrue found.b_is_ready ↔ IsReady sides.b

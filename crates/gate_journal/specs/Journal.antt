@@ -16,7 +16,7 @@ use Rattle.gate_journal.specs.declared.journal.SwitchRefused.{SwitchRefused}
 use Rattle.gate_journal.specs.declared.journal.SwitchRefused.TheVariants as refused
 use Rattle.gate_journal.specs.Layout.{side_text}
 use Rattle.gate_journal.specs.Ready.{IsReady}
-use Rattle.gate_journal.specs.Sides.{content_of, SidesHold}
+use Rattle.gate_journal.specs.Sides.{held_content, SidesHold}
 
 -- ---- what callers see of a journal
 
@@ -75,7 +75,7 @@ IsUntouched old new = (new.disk ≡ old.disk) × IsAsBefore old new
 
 -- how many bytes come before the gate that ends the records
 abbrev pub text_length : Held → ℕ
-text_length held = length (side_text (content_of held))
+text_length held = length (side_text (held_content held))
 
 -- what is held with one record more
 abbrev pub added : Held → List ℕ → Held

@@ -13,19 +13,19 @@ pub record Content : Type 0 where
 -- ---- the printer
 
 -- a number in 4 bytes, and one in 8, big end first
-unfoldable pub four_bytes : ℕ → List ℕ
-four_bytes n = to_be_bytes w32 n
+unfoldable pub length_bytes : ℕ → List ℕ
+length_bytes n = to_be_bytes w32 n
 
 unfoldable pub eight_bytes : ℕ → List ℕ
 eight_bytes n = to_be_bytes w64 n
 
 -- a record: an open gate, the length, the payload
 unfoldable pub record_text : List ℕ → List ℕ
-record_text payload = OPEN ∷ four_bytes (length payload) ++ payload
+record_text payload = OPEN ∷ length_bytes (length payload) ++ payload
 
 -- what comes before the base: an open gate, the generation, the length of the base
 unfoldable pub head_text : ℕ → ℕ → List ℕ
-head_text generation size = OPEN ∷ eight_bytes generation ++ four_bytes size
+head_text generation size = OPEN ∷ eight_bytes generation ++ length_bytes size
 
 -- a side up to the gate that ends its records
 unfoldable pub side_text : Content → List ℕ
@@ -58,7 +58,7 @@ abbrev pub IsClosed : List ℕ → Type 0
 IsClosed side = 2 ≤ length side → slice_index side 0 ≢ OPEN
 
 -- a side holds this: its bytes are the print, a gate that isn't open, and whatever follows
-pub record Holds (content : Content) (side : List ℕ) : Type 0 where
+pub record HoldsContent (content : Content) (side : List ℕ) : Type 0 where
   pub gate : ℕ
   pub behind : List ℕ
   pub text : side ≡ side_text content ++ gate ∷ behind
@@ -75,11 +75,11 @@ pub record HasHead (generation size : ℕ) (behind side : List ℕ) : Type 0 whe
 
 -- behind an open gate stands a length that no record has
 abbrev pub HasWrongSize : List ℕ → Type 0
-HasWrongSize behind = (size : ℕ) × (more : List ℕ) × (size < 2 ^ 32) × (behind ≡ four_bytes size ++ more) × ((size ≡ 0) ⊎ (MAX_RECORD < size))
+HasWrongSize behind = (size : ℕ) × (more : List ℕ) × (size < 2 ^ 32) × (behind ≡ length_bytes size ++ more) × ((size ≡ 0) ⊎ (MAX_RECORD < size))
 
 -- behind an open gate the side ends inside the length, or inside the payload
-abbrev pub IsCutShort : List ℕ → Type 0
-IsCutShort behind = (length behind < 4) ⊎ ((size : ℕ) × (more : List ℕ) × (size < 2 ^ 32) × (behind ≡ four_bytes size ++ more) × (length more < size))
+abbrev pub EndsTooSoon : List ℕ → Type 0
+EndsTooSoon behind = (length behind < 4) ⊎ ((size : ℕ) × (more : List ℕ) × (size < 2 ^ 32) × (behind ≡ length_bytes size ++ more) × (length more < size))
 
 -- an open side that ends inside its head
 abbrev pub HasShortHead : List ℕ → Type 0
@@ -95,7 +95,7 @@ HasNoGate side = (content : Content) × IsSound content × (side ≡ side_text c
 
 -- behind these records an open gate stands, and no record
 abbrev pub HasBadRecord : List ℕ → ℕ → Type 0
-HasBadRecord side place = (content : Content) × (behind : List ℕ) × IsSound content × (side ≡ side_text content ++ OPEN ∷ behind) × (HasWrongSize behind ⊎ IsCutShort behind) × (place ≡ length (side_text content))
+HasBadRecord side place = (content : Content) × (behind : List ℕ) × IsSound content × (side ≡ side_text content ++ OPEN ∷ behind) × (HasWrongSize behind ⊎ EndsTooSoon behind) × (place ≡ length (side_text content))
 
 -- the place of a side's first fault, in the order in which its bytes are looked at
 abbrev pub IsBadAt : List ℕ → ℕ → Type 0

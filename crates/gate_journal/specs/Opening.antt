@@ -10,8 +10,8 @@ use Rattle.gate_journal.specs.declared.opening.Choice.TheVariants.{Neither, Held
 use Rattle.gate_journal.specs.declared.held.Held.{Held as Holding}
 use Rattle.gate_journal.specs.declared.held.Layout.{Layout}
 use Rattle.gate_journal.specs.declared.held.Layout.TheVariants as layout
-use Rattle.gate_journal.specs.Layout.{HasHead, Holds, IsBadAt, IsClosed, places_from, side_text}
-use Rattle.gate_journal.specs.Sides.{IsBehind, HasShortSide, HasEqualGenerations, content_of, first_place}
+use Rattle.gate_journal.specs.Layout.{HasHead, HoldsContent, IsBadAt, IsClosed, places_from, side_text}
+use Rattle.gate_journal.specs.Sides.{IsBehind, HasShortSide, HasEqualGenerations, held_content, first_place}
 
 -- what both sides say of which one is held
 abbrev pub ChoiceIs : Choice → Sides → Type 0
@@ -27,19 +27,19 @@ pub record IsFront (front side : List ℕ) : Type 0 where
 -- a text holds this, in this place of the disk, and its records end at this gate
 pub record IsHeldText (held : Holding) (side : Side) (end : ℕ) (text : List ℕ) : Type 0 where
   pub on_side : held.side ≡ side
-  pub holds : Holds (content_of held) text
-  pub places : held.places ≡ places_from (first_place (content_of held)) held.records
-  pub ends : end ≡ length (side_text (content_of held))
+  pub holds : HoldsContent (held_content held) text
+  pub places : held.places ≡ places_from (first_place (held_content held)) held.records
+  pub ends : end ≡ length (side_text (held_content held))
 
 -- one side is closed, or holds this
 abbrev pub IsSideOf : Option Holding → Side → List ℕ → Type 0
 IsSideOf None side text = IsClosed text
-IsSideOf (Some held) side text = (held.side ≡ side) × Holds (content_of held) text × (held.places ≡ places_from (first_place (content_of held)) held.records)
+IsSideOf (Some held) side text = (held.side ≡ side) × HoldsContent (held_content held) text × (held.places ≡ places_from (first_place (held_content held)) held.records)
 
 -- what one side is by itself
 abbrev pub LayoutIs : Layout → Side → List ℕ → Type 0
 LayoutIs layout.Closed side text = IsClosed text
-LayoutIs (layout.Open held) side text = (held.side ≡ side) × Holds (content_of held) text × (held.places ≡ places_from (first_place (content_of held)) held.records)
+LayoutIs (layout.Open held) side text = (held.side ≡ side) × HoldsContent (held_content held) text × (held.places ≡ places_from (first_place (held_content held)) held.records)
 LayoutIs (layout.Bad place) side text = IsBadAt text place
 LayoutIs layout.Fault side text = Unit {0}
 LayoutIs layout.Memory side text = Unit {0}

@@ -10,7 +10,7 @@ use Rattle.gate_journal.specs.declared.window.ReadRefused.{ReadRefused}
 use Rattle.gate_journal.specs.declared.window.ReadRefused.TheVariants.{Fault, Memory}
 use Rattle.gate_journal.specs.declared.scan.Stop.{Stop}
 use Rattle.gate_journal.specs.declared.scan.Stop.TheVariants as stop
-use Rattle.gate_journal.specs.Layout.{IsRecordSize, HasWrongSize, IsCutShort, record_text, places_from}
+use Rattle.gate_journal.specs.Layout.{IsRecordSize, HasWrongSize, EndsTooSoon, record_text, places_from}
 
 -- the count of faults rises where the answer is a fault, and only there
 abbrev pub CountsReadFault : {T : Type 0} → Result T ReadRefused → ℕ → ℕ → Type 0
@@ -42,7 +42,7 @@ pub record ReadsOn (old new : DiskState) (before after : Window) : Type 0 where
 abbrev pub StopsAt : Stop → List ℕ → Type 0
 StopsAt stop.End text = (gate : ℕ) × (behind : List ℕ) × (text ≡ gate ∷ behind) × (gate ≢ OPEN)
 StopsAt stop.Bad text = (behind : List ℕ) × (text ≡ OPEN ∷ behind) × HasWrongSize behind
-StopsAt stop.More text = (text ≡ []) ⊎ ((behind : List ℕ) × (text ≡ OPEN ∷ behind) × IsCutShort behind)
+StopsAt stop.More text = (text ≡ []) ⊎ ((behind : List ℕ) × (text ≡ OPEN ∷ behind) × EndsTooSoon behind)
 
 -- these records stand in these bytes, the first of them at this place, and were put behind those that there were
 pub record Adds (place : ℕ) (text : List ℕ) (added records after : List (List ℕ)) (places places_after : List ℕ) : Type 0 where
@@ -61,4 +61,4 @@ abbrev pub EndsAt : List ℕ → ℕ → Type 0
 EndsAt text place = (gate : ℕ) × (behind : List ℕ) × (drop place text ≡ gate ∷ behind) × (gate ≢ OPEN)
 
 abbrev pub BreaksAt : List ℕ → ℕ → Type 0
-BreaksAt text place = (drop place text ≡ []) ⊎ ((behind : List ℕ) × (drop place text ≡ OPEN ∷ behind) × (HasWrongSize behind ⊎ IsCutShort behind))
+BreaksAt text place = (drop place text ≡ []) ⊎ ((behind : List ℕ) × (drop place text ≡ OPEN ∷ behind) × (HasWrongSize behind ⊎ EndsTooSoon behind))

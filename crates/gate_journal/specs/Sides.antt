@@ -6,11 +6,11 @@ use Rattle.xs_outside.specs.declared.Side.TheVariants.{A, B}
 use Rattle.xs_outside.specs.Disk.{Sides, on, other}
 use Rattle.gate_journal.specs.declared.parts.TheConstants.{HEAD}
 use Rattle.gate_journal.specs.declared.held.Held.{Held}
-use Rattle.gate_journal.specs.Layout.{Content, Holds, HasHead, HasShortHead, IsClosed, IsBadAt, head_text, places_from}
+use Rattle.gate_journal.specs.Layout.{Content, HoldsContent, HasHead, HasShortHead, IsClosed, IsBadAt, head_text, places_from}
 
 -- what is held, without the side and the places
-abbrev pub content_of : Held → Content
-content_of held = record { generation = held.generation; base = held.base; records = held.records }
+abbrev pub held_content : Held → Content
+held_content held = record { generation = held.generation; base = held.base; records = held.records }
 
 -- the place of the first record
 abbrev pub first_place : Content → ℕ
@@ -26,8 +26,8 @@ IsBehind generation side = IsClosed side ⊎ ((own : ℕ) × HasGeneration own s
 
 -- this is held: its side holds it, at these places, and the other side comes behind
 pub record IsHeldBy (sides : Sides) (held : Held) : Type 0 where
-  pub holds : Holds (content_of held) (on held.side sides)
-  pub places : held.places ≡ places_from (first_place (content_of held)) held.records
+  pub holds : HoldsContent (held_content held) (on held.side sides)
+  pub places : held.places ≡ places_from (first_place (held_content held)) held.records
   pub behind : IsBehind held.generation (on (other held.side) sides)
 
 -- what the sides hold, or nothing where both are closed

@@ -4,7 +4,7 @@
 ghost use Rattle.std.specs.Prelude.{◌≡◌, ◌↔◌, ◌⊎◌, ◌+◌, ◌-◌, ◌++◌, [], ◌∷◌, ◌<◌, ◌≤◌, ◌^◌, length, slice_index, IsTrue, Some, Option, OnOk, IfOk, IfSome, is_err, is_some};
 ghost use Rattle.gate_journal.specs.Opened.{PointsTo};
 ghost use Rattle.gate_journal.specs.Journal.{flag_after};
-ghost use Rattle.gate_journal.specs.Layout.{four_bytes, eight_bytes, IsRecordSize};
+ghost use Rattle.gate_journal.specs.Layout.{length_bytes, eight_bytes, IsRecordSize};
 ghost use Rattle.gate_journal.specs.declared.parts.TheConstants.{CLOSED, MAX_BASE};
 
 use crate::Held;
@@ -403,7 +403,7 @@ fn flag_after(side: Side, made: Side, flag: bool) -> bool
 fn side_behind_gate(alloc: Global, generation: u64, base: &[u8]) -> Result<Vec<u8>, AllocError>
     requires { length base.now < 2 ^ 32 }
     ensures { IfOk result (λ text. text.items
-        ≡ eight_bytes generation ++ four_bytes (length base.now) ++ base.now ++ CLOSED ∷ []) }
+        ≡ eight_bytes generation ++ length_bytes (length base.now) ++ base.now ++ CLOSED ∷ []) }
 {
     let mut text = Vec::with_capacity(alloc, HEAD + base.len())?;
     text.extend_from_slice(&generation.to_be_bytes())?;
@@ -417,7 +417,7 @@ fn side_behind_gate(alloc: Global, generation: u64, base: &[u8]) -> Result<Vec<u
 fn fill_record(buffer: &mut Vec<u8>, payload: &[u8]) -> Result<(), AllocError>
     requires { length payload.now < 2 ^ 32 }
     ensures { OnOk result (buffer.new.items
-        ≡ four_bytes (length payload.now) ++ payload.now ++ CLOSED ∷ []) }
+        ≡ length_bytes (length payload.now) ++ payload.now ++ CLOSED ∷ []) }
 {
     let size = payload.len() as u32;
     buffer.clear();

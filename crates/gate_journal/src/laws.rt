@@ -1,8 +1,14 @@
-//! What holds of the layout of a side, whoever reads it: with it a caller may conclude that what
-//! `layout` answers is the only thing that the side is.
-ghost use Rattle.gate_journal.specs.Laws.{EachSideHasOneLayout};
+//! What holds of the bytes of one side, and of both, whoever reads them: with it a caller may
+//! conclude that what `layout` and `Journal::open` answer is the only thing that the sides are.
+ghost use Rattle.gate_journal.specs.Laws.{BothSidesHaveOneAnswer, EachSideHasOneLayout};
 
 /// Each side of bytes is closed, or open with one content, or bad at one place, and no two of these.
 pub fn each_side_has_one_layout()
     ensures { EachSideHasOneLayout }
+{}
+
+/// Both sides of bytes hold one thing, or nothing, or have their first fault at one place of one
+/// side, and no two of these.
+pub fn both_sides_have_one_answer()
+    ensures { BothSidesHaveOneAnswer }
 {}

@@ -38,9 +38,9 @@
 //!
 //! # Invariants of a journal that isn't shut, on an honest disk
 //!
-//! Two words: a side *holds* what its bytes begin with the print of (`Layout.Holds`), and the disk
-//! is *settled* if a crash now leaves what it reads (`Disk.IsSettled`). The record `Journal.Stands`
-//! has all of these; the clauses named here keep them.
+//! Two words: a side *holds* what its bytes begin with the print of (`Layout.HoldsContent`), and the
+//! disk is *settled* if a crash now leaves what it reads (`Disk.IsSettled`). The record
+//! `Journal.Stands` has all of these; the clauses named here keep them.
 //!
 //! 1. The disk is settled: `opened` of `open`, `added`, `dropped`, `switched`.
 //! 2. The held side holds a base and records, and the other side is closed or has a smaller

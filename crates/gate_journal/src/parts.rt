@@ -1,7 +1,7 @@
 //! The bytes of a side as they are read: its head, and the record that comes next.
 
 ghost use Rattle.std.specs.Prelude.{◌≡◌, ◌+◌, ◌≤◌, length, take, drop};
-ghost use Rattle.gate_journal.specs.Layout.{four_bytes, eight_bytes};
+ghost use Rattle.gate_journal.specs.Layout.{length_bytes, eight_bytes};
 ghost use Rattle.gate_journal.specs.Parts.{HeadIs, NextIs};
 
 /// The gate of a side or a record that counts.
@@ -84,10 +84,10 @@ pub fn next_record(text: &[u8]) -> Next
     Next::Record(size)
 }
 
-#[tactic(auto, unfolding(crate::specs::Layout::four_bytes))]
+#[tactic(auto, unfolding(crate::specs::Layout::length_bytes))]
 fn number_of_4(text: &[u8], at: usize) -> u32
     requires { at + 4 ≤ length text.now }
-    ensures { four_bytes result ≡ take 4 (drop at text.now) }
+    ensures { length_bytes result ≡ take 4 (drop at text.now) }
 {
     u32::from_be_bytes([text[at], text[at + 1], text[at + 2], text[at + 3]])
 }

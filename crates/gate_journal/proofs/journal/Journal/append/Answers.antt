@@ -5,7 +5,7 @@ use Rattle.xs_outside.specs.declared.Side.TheVariants.{A, B}
 use Rattle.xs_outside.specs.Disk.{on, Changes}
 use Rattle.gate_journal.specs.declared.parts.TheConstants.{OPEN}
 use Rattle.gate_journal.specs.Gate.{IsOpening, StandsBehind}
-use Rattle.gate_journal.specs.Sides.{content_of}
+use Rattle.gate_journal.specs.Sides.{held_content}
 use Rattle.gate_journal.specs.Journal.{Knows, added}
 use Rattle.gate_journal.proofs.HoldLemmas.{behind_gate, append_image, append_done, still_ready, held_is_open, text_length-added, text_length-without_added}
 use Rattle.gate_journal.proofs.OkLemmas.{not_failed}
@@ -42,8 +42,8 @@ returns-clause-added g c held honest stands =
     subst (λ s. Changes s (StandsBehind OPEN c.in-Some.current.end (behind_gate c.args.payload.now)) old new) knows.side
     (subst (λ l. Changes c.in-Some.current.side (StandsBehind OPEN c.in-Some.current.end l) old new) text stood) in
     let done = append_done held c.args.payload.now c.requires.size old stands.sides c.in-Some.current.end knows.end new changes in
-    let before = held_is_open (content_of held) (on held.side old) stands.sides.holds in
-    let after = held_is_open (content_of (added held c.args.payload.now)) (on held.side new) done.holds in record {
+    let before = held_is_open (held_content held) (on held.side old) stands.sides.holds in
+    let after = held_is_open (held_content (added held c.args.payload.now)) (on held.side new) done.holds in record {
       open_for_calls = stands.open_for_calls;
       settled = not_failed c.open_gate.result (search rules) c.open_gate.ensures.settled honest;
       sides = done;

@@ -3,7 +3,7 @@ use Rattle.std.specs.Prelude.{Some, IfSome}
 use Rattle.xs_outside.specs.declared.Side.TheVariants.{A, B}
 use Rattle.xs_outside.specs.Disk.{on, Changes, Torn, Written}
 use Rattle.gate_journal.specs.declared.parts.TheConstants.{CLOSED}
-use Rattle.gate_journal.specs.Sides.{content_of}
+use Rattle.gate_journal.specs.Sides.{held_content}
 use Rattle.gate_journal.specs.Journal.{Knows, without_last, text_length}
 use Rattle.gate_journal.proofs.HoldLemmas.{still_ready, held_is_open}
 use Rattle.gate_journal.proofs.DropLemmas.{drop_image, drop_done, last_inside}
@@ -45,8 +45,8 @@ returns-clause-dropped g c held honest stands =
     let written = not_failed c.write_through.result (search rules) c.write_through.ensures.written honest in
     let changes = subst (λ s. Changes s (Written c.in-Some-last.place (CLOSED ∷ [])) old new) knows.side written in
     let done = drop_done held last.0 old stands.sides c.in-Some-last.place last.1 new changes in
-    let before = held_is_open (content_of held) (on held.side old) stands.sides.holds in
-    let after = held_is_open (content_of (without_last held)) (on held.side new) done.holds in record {
+    let before = held_is_open (held_content held) (on held.side old) stands.sides.holds in
+    let after = held_is_open (held_content (without_last held)) (on held.side new) done.holds in record {
       open_for_calls = stands.open_for_calls;
       settled = not_failed c.write_through.result (search rules) c.write_through.ensures.settled honest;
       sides = done;

@@ -2,7 +2,7 @@ use Rattle.std.proofs.Common.{◌≡◌, ◌↔◌, IsTrue, ℕ, ◌+◌, ◌^�
 use Rattle.xs_outside.specs.declared.Side.TheVariants.{A, B}
 use Rattle.xs_outside.specs.Disk.{on, Changes}
 use Rattle.gate_journal.specs.Gate.{IsBeingMade, BeginsWith}
-use Rattle.gate_journal.specs.Sides.{content_of}
+use Rattle.gate_journal.specs.Sides.{held_content}
 use Rattle.gate_journal.specs.Journal.{switched, flag_after}
 use Rattle.gate_journal.specs.Ready.{IsReady}
 use Rattle.gate_journal.proofs.HoldLemmas.{held_is_open}
@@ -53,7 +53,7 @@ returns-clause-switched g c held honest stands =
     subst (λ s. Changes s (λ _. BeginsWith (behind_side (switched held base).generation base)) old new) side
     (subst (λ (l : List ℕ). Changes c.next_side-side.result.0 (λ _. BeginsWith l) old new) text made) in
     let done = switch_done base (omega arith) held old new fits stands.sides changes in
-    let after = held_is_open (content_of (switched held base)) (on (switched held base).side new) done.holds in record {
+    let after = held_is_open (held_content (switched held base)) (on (switched held base).side new) done.holds in record {
       open_for_calls = stands.open_for_calls;
       settled = not_failed c.make_side.result (search rules) c.make_side.ensures.settled honest;
       sides = done;
