@@ -21,10 +21,19 @@ copy_crate() {
     done
 }
 
+# Gives the files of a folder that end in `.rattle` another ending.
+rename() {
+    find "$1" -name '*.rattle' -exec sh -c 'mv "$1" "${1%.rattle}.$2"' _ {} "$2" ';'
+}
+
 # The text of a program, whose files have names here that the gate lets stand.
 copy_program() {
     cp -r "$top/bench/programs/$1/src" "$room/crates/$1"
-    find "$room/crates/$1/src" -name '*.rattle' -exec sh -c 'mv "$1" "${1%.rattle}.rt"' _ {} ';'
+    rename "$room/crates/$1/src" rt
+    if [ -e "$top/bench/programs/$1/proofs" ]; then
+        cp -r "$top/bench/programs/$1/proofs" "$room/crates/$1"
+        rename "$room/crates/$1/proofs" antt
+    fi
 }
 
 # A crate and those below it. One that neither list has is the toolchain's.
