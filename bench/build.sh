@@ -21,10 +21,19 @@ copy_crate() {
     done
 }
 
+# Gives the files of a folder that end in `.rattle` another ending.
+rename() {
+    find "$1" -name '*.rattle' -exec sh -c 'mv "$1" "${1%.rattle}.$2"' _ {} "$2" ';'
+}
+
 # The text of a program, whose files have names here that the gate lets stand, in the folder of a crate.
 copy_program() {
     cp -r "$top/bench/programs/$1/src" "$room/crates/$2"
-    find "$room/crates/$2/src" -name '*.rattle' -exec sh -c 'mv "$1" "${1%.rattle}.rt"' _ {} ';'
+    rename "$room/crates/$2/src" rt
+    if [ -e "$top/bench/programs/$1/proofs" ]; then
+        cp -r "$top/bench/programs/$1/proofs" "$room/crates/$2"
+        rename "$room/crates/$2/proofs" antt
+    fi
 }
 
 # The crate of which a program is the `main`: that which its file `main_of` names, or one of its own.
