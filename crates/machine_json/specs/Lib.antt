@@ -1,0 +1,5 @@
+pub mod Expressions
+pub mod ExpressionParts
+pub mod FirstFaults
+pub mod JsonValues
+pub mod MachineFaults

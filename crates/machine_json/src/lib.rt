@@ -1,0 +1,12 @@
+//! Machine texts: reads JSON as the definition of a machine, and the expressions in it.
+#![tactic(auto)]
+
+mod expressions;
+mod fault;
+#[cfg(test)]
+mod tests;
+mod values;
+
+pub use expressions::{FormFault, FormPlace, Operator, read_expr, read_form};
+pub use fault::MachineFault;
+pub use values::json_value;
