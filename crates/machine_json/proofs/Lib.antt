@@ -1,1 +1,3 @@
 pub mod ValueLemmas
+pub mod ExpressionLemmas
+pub mod MemberLemmas
