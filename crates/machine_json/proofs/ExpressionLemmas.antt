@@ -24,7 +24,7 @@ use Rattle.machine_json.specs.FirstFaults.{IsLeastPlace}
 -- ---- one meaning or a fault, never both
 
 -- the form of JSON is one
-same_form : (json : OrderedJson) (form other : Expr-F OrderedJson) → form_of json ≡ Some form → form_of json ≡ Some other → other ≡ form
+pub same_form : (json : OrderedJson) (form other : Expr-F OrderedJson) → form_of json ≡ Some form → form_of json ≡ Some other → other ≡ form
 same_form json form other is other_is = cc
 
 no_form : (json : OrderedJson) (form : Expr-F OrderedJson) → form_of json ≡ Some form → form_of json ≡ None → ⊥

@@ -1,3 +1,4 @@
 pub mod ValueLemmas
 pub mod ExpressionLemmas
 pub mod MemberLemmas
+pub mod MeaningLemmas

@@ -2,4 +2,5 @@ pub mod Expressions
 pub mod ExpressionParts
 pub mod FirstFaults
 pub mod JsonValues
+pub mod Laws
 pub mod MachineFaults

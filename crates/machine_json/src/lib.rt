@@ -3,6 +3,7 @@
 
 mod expressions;
 mod fault;
+pub mod laws;
 #[cfg(test)]
 mod tests;
 mod values;
