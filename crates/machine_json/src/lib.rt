@@ -1,11 +1,11 @@
 //! Machine texts: reads JSON as the definition of a machine, and the expressions in it.
 #![tactic(auto)]
 
+#[cfg(test)]
+mod expression_tests;
 mod expressions;
 mod fault;
 pub mod laws;
-#[cfg(test)]
-mod tests;
 mod values;
 
 pub use expressions::{FormFault, FormPlace, Operator, read_expr, read_form};
