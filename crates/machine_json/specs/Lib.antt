@@ -1,6 +1,9 @@
+pub mod ExpressionParts
+pub mod Expressions
 pub mod Fields
 pub mod FirstFaults
 pub mod FirstPass
+pub mod JsonValues
 pub mod Keys
 pub mod MachineFaults
 pub mod NodeKinds

@@ -1,6 +1,7 @@
 //! Machine texts: reads JSON as the definition of a machine, and the expressions in it.
 #![tactic(auto)]
 
+mod expressions;
 mod fault;
 mod field;
 mod first;
@@ -10,7 +11,11 @@ mod kind_word;
 mod machine;
 mod role;
 mod role_value;
+#[cfg(test)]
+mod tests;
+mod values;
 
+pub use expressions::{FormFault, FormPlace, Operator, read_expr, read_form};
 pub use fault::MachineFault;
 pub use key::MAX_DELAY;
 pub use kind_word::NodeKind;
@@ -19,3 +24,4 @@ pub use machine::{
     UnlinkedGuard, UnlinkedGuards, UnlinkedInvocation, UnlinkedInvocations, UnlinkedNode,
     UnlinkedNodes, UnlinkedTransition, UnlinkedTransitions,
 };
+pub use values::json_value;
