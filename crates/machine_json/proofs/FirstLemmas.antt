@@ -82,20 +82,22 @@ first_of_two : (x y : MachineFault) (P Q : MachineFault → Type 0)
 first_of_two x y P Q first second before = record {
   there = inl first.there;
   no_earlier = λ other is. elim is [
-    inl p ↦ first.no_earlier other p
+    | inl p ↦ first.no_earlier other p
     | inr q ↦
-      let low : machine_fault_place x ≤ machine_fault_place y = place_before (machine_fault_place x) (machine_fault_number x) (machine_fault_place y) (machine_fault_number y) before in
-      let high = second.no_earlier other q in omega arith ];
+        let low : machine_fault_place x ≤ machine_fault_place y = place_before (machine_fault_place x) (machine_fault_number x) (machine_fault_place y) (machine_fault_number y) before in
+        let high = second.no_earlier other q in omega arith
+  ];
   least_number = λ other is same. elim is [
-    inl p ↦ first.least_number other p same
+    | inl p ↦ first.least_number other p same
     | inr q ↦
-      let low : machine_fault_place x ≤ machine_fault_place y = place_before (machine_fault_place x) (machine_fault_number x) (machine_fault_place y) (machine_fault_number y) before in
-      let high : machine_fault_place y ≤ machine_fault_place other = second.no_earlier other q in
-      let here : machine_fault_place y ≡ machine_fault_place x = omega arith in
-      let there : machine_fault_place other ≡ machine_fault_place y = omega arith in
-      let number : machine_fault_number x ≤ machine_fault_number y = number_before (machine_fault_place x) (machine_fault_number x) (machine_fault_place y) (machine_fault_number y) before here in
-      let least : machine_fault_number y ≤ machine_fault_number other = second.least_number other q there in
-      omega arith ];
+        let low : machine_fault_place x ≤ machine_fault_place y = place_before (machine_fault_place x) (machine_fault_number x) (machine_fault_place y) (machine_fault_number y) before in
+        let high : machine_fault_place y ≤ machine_fault_place other = second.no_earlier other q in
+        let here : machine_fault_place y ≡ machine_fault_place x = omega arith in
+        let there : machine_fault_place other ≡ machine_fault_place y = omega arith in
+        let number : machine_fault_number x ≤ machine_fault_number y = number_before (machine_fault_place x) (machine_fault_number x) (machine_fault_place y) (machine_fault_number y) before here in
+        let least : machine_fault_number y ≤ machine_fault_number other = second.least_number other q there in
+        omega arith
+  ];
 }
 
 second_of_two : (x y : MachineFault) (P Q : MachineFault → Type 0)
@@ -104,20 +106,22 @@ second_of_two : (x y : MachineFault) (P Q : MachineFault → Type 0)
 second_of_two x y P Q first second after = record {
   there = inr second.there;
   no_earlier = λ other is. elim is [
-    inl p ↦
-      let low : machine_fault_place y ≤ machine_fault_place x = place_after (machine_fault_place x) (machine_fault_number x) (machine_fault_place y) (machine_fault_number y) after in
-      let high = first.no_earlier other p in omega arith
-    | inr q ↦ second.no_earlier other q ];
+    | inl p ↦
+        let low : machine_fault_place y ≤ machine_fault_place x = place_after (machine_fault_place x) (machine_fault_number x) (machine_fault_place y) (machine_fault_number y) after in
+        let high = first.no_earlier other p in omega arith
+    | inr q ↦ second.no_earlier other q
+  ];
   least_number = λ other is same. elim is [
-    inl p ↦
-      let low : machine_fault_place y ≤ machine_fault_place x = place_after (machine_fault_place x) (machine_fault_number x) (machine_fault_place y) (machine_fault_number y) after in
-      let high : machine_fault_place x ≤ machine_fault_place other = first.no_earlier other p in
-      let here : machine_fault_place x ≡ machine_fault_place y = omega arith in
-      let there : machine_fault_place other ≡ machine_fault_place x = omega arith in
-      let number : machine_fault_number y ≤ machine_fault_number x = number_after (machine_fault_place x) (machine_fault_number x) (machine_fault_place y) (machine_fault_number y) after here in
-      let least : machine_fault_number x ≤ machine_fault_number other = first.least_number other p there in
-      omega arith
-    | inr q ↦ second.least_number other q same ];
+    | inl p ↦
+        let low : machine_fault_place y ≤ machine_fault_place x = place_after (machine_fault_place x) (machine_fault_number x) (machine_fault_place y) (machine_fault_number y) after in
+        let high : machine_fault_place x ≤ machine_fault_place other = first.no_earlier other p in
+        let here : machine_fault_place x ≡ machine_fault_place y = omega arith in
+        let there : machine_fault_place other ≡ machine_fault_place x = omega arith in
+        let number : machine_fault_number y ≤ machine_fault_number x = number_after (machine_fault_place x) (machine_fault_number x) (machine_fault_place y) (machine_fault_number y) after here in
+        let least : machine_fault_number x ≤ machine_fault_number other = first.least_number other p there in
+        omega arith
+    | inr q ↦ second.least_number other q same
+  ];
 }
 
 by_test : (x y : MachineFault) (P Q : MachineFault → Type 0) (before : Bool) → comes_first x y ≡ before
@@ -190,14 +194,16 @@ pub among_more : {X : Type 0} (Has : X → MachineFault → Type 0) (xs : List X
 among_more {X} Has xs i x a b at first next =
     as_set (earlier a b) (λ f. Among Has xs i f ⊎ Has x f) (Among Has xs (i + 1))
     (λ f is. elim is [
-      inl before ↦ (before.0, before.1, omega (arith, before.2), before.3, before.4)
-      | inr here ↦ (i, x, omega arith, at, here) ])
+      | inl before ↦ (before.0, before.1, omega (arith, before.2), before.3, before.4)
+      | inr here ↦ (i, x, omega arith, at, here)
+    ])
     (λ f is. elim (lt_or_eq is.0 i is.2) [
-      inl before ↦ inl (is.0, is.1, before, is.3, is.4)
+      | inl before ↦ inl (is.0, is.1, before, is.3, is.4)
       | inr same ↦
-        let found : Some is.1 ≡ Some x = sym is.3 ∙ ap (slice_get xs) same ∙ at in
-        let item : is.1 ≡ x = cc in
-        let P : X → Type 0 = λ y. Has y f in inr (subst P item is.4) ])
+          let found : Some is.1 ≡ Some x = sym is.3 ∙ ap (slice_get xs) same ∙ at in
+          let item : is.1 ≡ x = cc in
+          let P : X → Type 0 = λ y. Has y f in inr (subst P item is.4)
+    ])
     (both a b (Among Has xs i) (Has x) first next)
 
 pub among_all : {X : Type 0} (Has : X → MachineFault → Type 0) (xs : List X) (n : ℕ) (a : Option MachineFault)

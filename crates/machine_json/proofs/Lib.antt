@@ -1,4 +1,7 @@
 mod FirstLemmas
 mod KeyLemmas
-mod MemberLemmas
+mod OwnLemmas
+mod PartLemmas
+mod TestLemmas
+pub mod ExpressionLemmas
 pub mod ValueLemmas

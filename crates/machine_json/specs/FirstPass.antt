@@ -11,6 +11,8 @@ use Rattle.machine_json.specs.declared.kind_word.NodeKind.{NodeKind}
 use Rattle.machine_json.specs.declared.kind_word.NodeKind.TheVariants.{Atomic, Compound, Parallel, Final, History}
 use Rattle.machine_json.specs.declared.role.Role.{Role}
 use Rattle.machine_json.specs.declared.role.Role.TheVariants as role
+use Rattle.machine_json.specs.declared.expressions.FormPlace.TheVariants.{AtObject}
+use Rattle.machine_json.specs.Expressions.{HasUnknownForm}
 use Rattle.machine_json.specs.FirstFaults.{IsFirst}
 use Rattle.machine_json.specs.MachineFaults.{machine_fault_number, machine_fault_place}
 use Rattle.machine_json.specs.NodeKinds.{children_of, kind_of_members, members_of, node_kind}
@@ -24,7 +26,7 @@ abbrev pub comes_first : MachineFault → MachineFault → Bool
 comes_first a b =
     nat_lt (machine_fault_place a) (machine_fault_place b)
     || ((machine_fault_place a == machine_fault_place b)
-        && nat_le (machine_fault_number a) (machine_fault_number b))
+    && nat_le (machine_fault_number a) (machine_fault_number b))
 
 -- the one of two faults that is answered
 abbrev pub earlier : Option MachineFault → Option MachineFault → Option MachineFault
@@ -129,6 +131,15 @@ own_faults role.Root json = value_faults role.Root json ++ node_faults true json
 own_faults role.State json = value_faults role.State json ++ node_faults false json
 own_faults role json = value_faults role json
 
+-- a fault of what is an unknown form of an expression, at its object
+abbrev pub IsFormFault : OrderedJson → MachineFault → Type 0
+IsFormFault json fault = (place : ℕ) × (BadKind place ≡ fault) × HasUnknownForm AtObject json place
+
+-- a value has the fault itself; an expression has those of its unknown forms
+abbrev pub HasOwnFault : Role → OrderedJson → MachineFault → Type 0
+HasOwnFault role.Expression json fault = IsFormFault json fault
+HasOwnFault role json fault = Contains (own_faults role json) fault
+
 -- the faults of the key of a member
 abbrev pub key_faults : Role → NodeKind → MemberParts → List MachineFault
 key_faults role kind member =
@@ -144,7 +155,7 @@ items_of json = unwrap_or (as_list json) []
 -- a value in a role has a fault itself, at a key, in an item or in the value of a member
 pub data HasFaultAs : Role → OrderedJson → MachineFault → Type 0 where
   own : (role : Role) (json : OrderedJson) (fault : MachineFault)
-      → Contains (own_faults role json) fault → HasFaultAs role json fault
+      → HasOwnFault role json fault → HasFaultAs role json fault
   at_key : (role : Role) (json : OrderedJson) (fault : MachineFault) (k : ℕ) (member : MemberParts)
       → slice_get (members_of json) k ≡ Some member
       → Contains (key_faults role (node_kind json) member) fault → HasFaultAs role json fault

@@ -38,13 +38,7 @@ pub(crate) fn earlier(a: Option<MachineFault>, b: Option<MachineFault>) -> Optio
     ensures { result ≡ earlier a b }
 {
     match (a, b) {
-        (Some(x), Some(y)) => {
-            if x.comes_first(y) {
-                a
-            } else {
-                b
-            }
-        }
+        (Some(x), Some(y)) => { if x.comes_first(y) { a } else { b } }
         (Some(_), None) => a,
         (None, _) => b,
     }

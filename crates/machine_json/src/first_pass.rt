@@ -1,69 +1,99 @@
 //! The first pass over a machine text: fields, kinds of values, initial children.
 
-ghost use Rattle.std.specs.Prelude.{◌≡◌, map};
+ghost use Rattle.std.specs.Prelude.{◌≡◌, IfOk, map};
 ghost use Rattle.std.specs.List.{list_all, list_any};
 ghost use Rattle.ordered_json.specs.Words.{member_parts};
 ghost use Rattle.machine_json.specs.NodeKinds.{members_of};
-ghost use Rattle.machine_json.specs.FirstPass.{HasFaultAs, HasMemberFault, IsAmongItems, IsAmongMembers, TellsFirst, atomic_faults, earliest, empty_faults, initial_faults, initial_text_faults, is_history_child, is_initial_child, key_faults, names_initial, node_faults, own_faults, root_faults};
+ghost use Rattle.machine_json.specs.FirstPass.{HasFaultAs, HasMemberFault, HasOwnFault, IsAmongItems, IsAmongMembers, IsFormFault, TellsFirst, atomic_faults, earliest, empty_faults, initial_faults, initial_text_faults, is_history_child, is_initial_child, key_faults, names_initial, node_faults, own_faults, root_faults};
 
+use crate::expressions::read_expr;
 use crate::fault::MachineFault;
 use crate::first::earlier;
 use crate::kind_word::{NodeKind, children};
 use crate::role::Role;
 use ordered_json::{Member, OrderedJson, get};
+use std::alloc::{AllocError, Global};
 
 /// The first fault of a value in a role, whether the value has it itself or a part of it. It looks at
-/// each part once, and at the members of an object once more for its kind.
+/// each part once, and at the members of an object once more for its kind. It takes memory for the
+/// expressions, each of which is read and let go.
 #[cycle(first_pass)]
-pub(crate) fn first_fault(role: Role, json: &OrderedJson) -> Option<MachineFault>
-    ensures { TellsFirst result (HasFaultAs role json.now) }
+pub(crate) fn first_fault(
+    alloc: Global,
+    role: Role,
+    json: &OrderedJson,
+) -> Result<Option<MachineFault>, AllocError>
+    ensures { IfOk result (λ first. TellsFirst first (HasFaultAs role json.now)) }
 {
-    let own = own_fault(role, json);
+    let own = own_fault(alloc, role, json)?;
     match json {
         OrderedJson::List { items, .. } => {
-            earlier(own, first_in_items(role.of_item(), items.as_slice()))
+            let inner = first_in_items(alloc, role.of_item(), items.as_slice())?;
+            Ok(earlier(own, inner))
         }
-        OrderedJson::Object { members, .. } => earlier(
-            own,
-            first_in_members(role, NodeKind::of(json), members.as_slice()),
-        ),
-        _ => own,
+        OrderedJson::Object { members, .. } => {
+            let inner = first_in_members(alloc, role, NodeKind::of(json), members.as_slice())?;
+            Ok(earlier(own, inner))
+        }
+        OrderedJson::Null { .. }
+        | OrderedJson::Bool { .. }
+        | OrderedJson::Int { .. }
+        | OrderedJson::Text { .. } => Ok(own),
     }
 }
 
 /// The first fault of several values in one role.
 #[cycle(first_pass)]
-fn first_in_items(role: Role, items: &[OrderedJson]) -> Option<MachineFault>
-    ensures { TellsFirst result (IsAmongItems role items.now) }
+fn first_in_items(
+    alloc: Global,
+    role: Role,
+    items: &[OrderedJson],
+) -> Result<Option<MachineFault>, AllocError>
+    ensures { IfOk result (λ first. TellsFirst first (IsAmongItems role items.now)) }
 {
     let mut first = None;
     for item in items {
-        first = earlier(first, first_fault(role, item));
+        first = earlier(first, first_fault(alloc, role, item)?);
     }
-    first
+    Ok(first)
 }
 
 /// The first fault of the members of an object in a role.
 #[cycle(first_pass)]
-fn first_in_members(role: Role, kind: NodeKind, members: &[Member]) -> Option<MachineFault>
-    ensures { TellsFirst result (IsAmongMembers role kind (map member_parts members.now)) }
+fn first_in_members(
+    alloc: Global,
+    role: Role,
+    kind: NodeKind,
+    members: &[Member],
+) -> Result<Option<MachineFault>, AllocError>
+    ensures { IfOk result
+        (λ first. TellsFirst first (IsAmongMembers role kind (map member_parts members.now))) }
 {
     let mut first = None;
     for member in members {
-        first = earlier(first, first_in_member(role, kind, member));
+        first = earlier(first, first_in_member(alloc, role, kind, member)?);
     }
-    first
+    Ok(first)
 }
 
 /// The first fault of a member, at its key or in its value.
 #[cycle(first_pass)]
-fn first_in_member(role: Role, kind: NodeKind, member: &Member) -> Option<MachineFault>
-    ensures { TellsFirst result (HasMemberFault role kind (member_parts member.now)) }
+fn first_in_member(
+    alloc: Global,
+    role: Role,
+    kind: NodeKind,
+    member: &Member,
+) -> Result<Option<MachineFault>, AllocError>
+    ensures { IfOk result
+        (λ first. TellsFirst first (HasMemberFault role kind (member_parts member.now))) }
 {
     let at_key = key_fault(role, kind, member);
     match role.of_member(kind, member.key.as_str()) {
-        Some(part) => earlier(at_key, first_fault(part, &member.value)),
-        None => at_key,
+        Some(part) => {
+            let inner = first_fault(alloc, part, &member.value)?;
+            Ok(earlier(at_key, inner))
+        }
+        None => Ok(at_key),
     }
 }
 
@@ -81,8 +111,33 @@ fn key_fault(role: Role, kind: NodeKind, member: &Member) -> Option<MachineFault
 }
 
 /// The first fault that a value has itself.
+fn own_fault(
+    alloc: Global,
+    role: Role,
+    json: &OrderedJson,
+) -> Result<Option<MachineFault>, AllocError>
+    ensures { IfOk result (λ first. TellsFirst first (HasOwnFault role json.now)) }
+{
+    match role {
+        Role::Expression => form_fault(alloc, json),
+        _ => Ok(value_fault(role, json)),
+    }
+}
+
+/// The first fault of an expression.
+fn form_fault(alloc: Global, json: &OrderedJson) -> Result<Option<MachineFault>, AllocError>
+    ensures { IfOk result (λ first. TellsFirst first (IsFormFault json.now)) }
+{
+    match read_expr(alloc, json).err() {
+        None => Ok(None),
+        Some(MachineFault::BadKind(place)) => Ok(Some(MachineFault::BadKind(place))),
+        Some(_) => Err(AllocError),
+    }
+}
+
+/// The first fault that a value has as one of its role.
 #[tactic(auto, using(crate::proofs::FirstLemmas::first_of_lists))]
-fn own_fault(role: Role, json: &OrderedJson) -> Option<MachineFault>
+fn value_fault(role: Role, json: &OrderedJson) -> Option<MachineFault>
     ensures { result ≡ earliest (own_faults role json.now) }
 {
     let bad_kind = (!role.takes(json)).then_some(MachineFault::BadKind(json.place()));
@@ -176,7 +231,7 @@ fn initial_child_fault(children: &[Member], json: &OrderedJson) -> Option<Machin
 }
 
 /// Whether a key is that of a child that is no history node.
-#[tactic(auto, using(crate::proofs::MemberLemmas::member_tests))]
+#[tactic(auto, using(crate::proofs::TestLemmas::member_tests))]
 fn names_initial(children: &[Member], key: &[u8]) -> bool
     ensures { result ≡ names_initial (map member_parts children.now) key.now }
 {
@@ -205,7 +260,7 @@ fn is_history_child(child: &Member) -> bool
 }
 
 /// The fault of a compound or parallel node without a child that is no history node.
-#[tactic(auto, using(crate::proofs::MemberLemmas::member_tests))]
+#[tactic(auto, using(crate::proofs::TestLemmas::member_tests))]
 fn empty_fault(kind: NodeKind, members: &[Member], place: usize) -> Option<MachineFault>
     ensures { result ≡ earliest (empty_faults kind (map member_parts members.now) place) }
 {
