@@ -1,4 +1,9 @@
-pub mod ValueLemmas
 pub mod ExpressionLemmas
-pub mod MemberLemmas
+mod FirstLemmas
+mod KeyLemmas
 pub mod MeaningLemmas
+pub mod MemberLemmas
+mod OwnLemmas
+mod PartLemmas
+mod TestLemmas
+pub mod ValueLemmas
