@@ -14,8 +14,6 @@ pub mod laws;
 mod machine;
 mod role;
 mod role_value;
-#[cfg(test)]
-mod tests;
 mod values;
 
 pub use expressions::{FormFault, FormPlace, Operator, read_expr, read_form};
