@@ -279,7 +279,6 @@ only_unknown json place (in_items _ _ _ has) = absurd (no_items_left role.Expres
 pub expression-least : (json : OrderedJson) (found : Option ℕ) → IsLeastOf (HasUnknownForm AtOperator json) found → IsLeastOf (HasTableFault role.Expression json) found
 expression-least json found least = least-same (HasUnknownForm AtOperator json) (HasTableFault role.Expression json) found least (λ n has. unknown json n has) (λ n has. only_unknown json n has)
 
-
 -- ---- readings
 
 same_place : (p q : ℕ) → Some (Unknown p) ≡ Some (Unknown q) → p ≡ q

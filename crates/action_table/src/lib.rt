@@ -12,6 +12,4 @@ mod tests;
 pub use fault::TableFault;
 pub use first::first_fault;
 pub use role::TableRole;
-pub use table::{
-    Table, TableActor, UnlinkedForm, UnlinkedForms, UnlinkedItem, UnlinkedItems,
-};
+pub use table::{Table, TableActor, UnlinkedForm, UnlinkedForms, UnlinkedItem, UnlinkedItems};

@@ -129,11 +129,7 @@ fn has_shapes(role: TableRole) -> bool
 {
     matches!(
         role,
-        TableRole::Action
-            | TableRole::Form
-            | TableRole::Item
-            | TableRole::Target
-            | TableRole::Actor
+        TableRole::Action | TableRole::Form | TableRole::Item | TableRole::Target | TableRole::Actor
     )
 }
 

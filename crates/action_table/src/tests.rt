@@ -28,7 +28,10 @@ const EXPRESSIONS: [(&[u8], usize); 8] = [
     (b"{\"guards\":{\"g\":{\"$no\":1}}}", 16),
     (b"{\"guards\":{\"g\":{\"a\":1,\"$lit\":2}}}", 22),
     (b"{\"guards\":{\"g\":{\"$add\":[1]}}}", 16),
-    (b"{\"guards\":{\"g\":{\"$add\":[{\"$a\":1},{\"$b\":1}]}}}", 25),
+    (
+        b"{\"guards\":{\"g\":{\"$add\":[{\"$a\":1},{\"$b\":1}]}}}",
+        25,
+    ),
     (b"{\"delays\":{\"d\":{\"$context\":5}}}", 16),
     (b"{\"delays\":{\"d\":[1,{\"x\":{\"$if\":[1,2]}}]}}", 24),
     (b"{\"guards\":{\"a\":1,\"b\":{\"$lit\":1,\"$not\":2}}}", 22),
@@ -44,12 +47,18 @@ const ACTORS: [(&[u8], usize); 15] = [
     (b"{\"actors\":{\"a\":{\"x\":1}}}", 16),
     (b"{\"actors\":{\"a\":{\"machine\":1}}}", 26),
     (b"{\"actors\":{\"a\":{\"machine\":{}}}}", 26),
-    (b"{\"actors\":{\"a\":{\"machine\":\"m\",\"promise\":{}}}}", 30),
+    (
+        b"{\"actors\":{\"a\":{\"machine\":\"m\",\"promise\":{}}}}",
+        30,
+    ),
     (b"{\"actors\":{\"a\":{\"x\":1,\"machine\":\"m\"}}}", 16),
     (b"{\"actors\":{\"a\":{\"promise\":null}}}", 26),
     (b"{\"actors\":{\"a\":{\"promise\":[]}}}", 26),
     (b"{\"actors\":{\"a\":{\"promise\":{\"x\":1}}}}", 27),
-    (b"{\"actors\":{\"a\":{\"promise\":{},\"machine\":\"m\"}}}", 29),
+    (
+        b"{\"actors\":{\"a\":{\"promise\":{},\"machine\":\"m\"}}}",
+        29,
+    ),
     (b"{\"actors\":{\"a\":{\"machine\":\"m\",\"input\":1}}}", 30),
     (b"{\"actors\":{\"a\":{\"promise\":{},\"id\":\"i\"}}}", 29),
 ];
@@ -68,12 +77,21 @@ const FORMS: [(&[u8], usize); 32] = [
     (b"{\"actions\":{\"a\":{\"delay\":5,\"x\":1}}}", 17),
     (b"{\"actions\":{\"a\":{\"assign\":1}}}", 26),
     (b"{\"actions\":{\"a\":{\"assign\":[]}}}", 26),
-    (b"{\"actions\":{\"a\":{\"assign\":{\"k\":{\"$no\":1}}}}}", 32),
+    (
+        b"{\"actions\":{\"a\":{\"assign\":{\"k\":{\"$no\":1}}}}}",
+        32,
+    ),
     (b"{\"actions\":{\"a\":{\"assign\":{},\"id\":1}}}", 29),
     (b"{\"actions\":{\"a\":{\"assign\":{},\"raise\":1}}}", 29),
     (b"{\"actions\":{\"a\":{\"raise\":{\"$no\":1}}}}", 26),
-    (b"{\"actions\":{\"a\":{\"raise\":1,\"delay\":{\"$no\":1}}}}", 36),
-    (b"{\"actions\":{\"a\":{\"raise\":1,\"id\":{\"$no\":1}}}}", 33),
+    (
+        b"{\"actions\":{\"a\":{\"raise\":1,\"delay\":{\"$no\":1}}}}",
+        36,
+    ),
+    (
+        b"{\"actions\":{\"a\":{\"raise\":1,\"id\":{\"$no\":1}}}}",
+        33,
+    ),
     (b"{\"actions\":{\"a\":{\"raise\":1,\"event\":1}}}", 27),
     (b"{\"actions\":{\"a\":{\"raise\":1,\"cancel\":\"x\"}}}", 27),
     (b"{\"actions\":{\"a\":{\"cancel\":{\"$no\":1}}}}", 27),
@@ -82,34 +100,91 @@ const FORMS: [(&[u8], usize); 32] = [
     (b"{\"actions\":{\"a\":{\"stopChild\":{\"$no\":1}}}}", 30),
     (b"{\"actions\":{\"a\":{\"stopChild\":\"x\",\"id\":1}}}", 33),
     (b"{\"actions\":{\"a\":{\"spawnChild\":1}}}", 30),
-    (b"{\"actions\":{\"a\":{\"spawnChild\":{\"$lit\":\"x\"}}}}", 30),
-    (b"{\"actions\":{\"a\":{\"spawnChild\":\"x\",\"id\":{\"$no\":1}}}}", 40),
-    (b"{\"actions\":{\"a\":{\"spawnChild\":\"x\",\"input\":{\"$no\":1}}}}", 43),
-    (b"{\"actions\":{\"a\":{\"spawnChild\":\"x\",\"systemId\":{\"$no\":1}}}}", 46),
-    (b"{\"actions\":{\"a\":{\"spawnChild\":\"x\",\"delay\":1}}}", 34),
-    (b"{\"actions\":{\"a\":[{\"cancel\":\"x\"},{\"y\":1},{\"z\":1}]}}", 33),
+    (
+        b"{\"actions\":{\"a\":{\"spawnChild\":{\"$lit\":\"x\"}}}}",
+        30,
+    ),
+    (
+        b"{\"actions\":{\"a\":{\"spawnChild\":\"x\",\"id\":{\"$no\":1}}}}",
+        40,
+    ),
+    (
+        b"{\"actions\":{\"a\":{\"spawnChild\":\"x\",\"input\":{\"$no\":1}}}}",
+        43,
+    ),
+    (
+        b"{\"actions\":{\"a\":{\"spawnChild\":\"x\",\"systemId\":{\"$no\":1}}}}",
+        46,
+    ),
+    (
+        b"{\"actions\":{\"a\":{\"spawnChild\":\"x\",\"delay\":1}}}",
+        34,
+    ),
+    (
+        b"{\"actions\":{\"a\":[{\"cancel\":\"x\"},{\"y\":1},{\"z\":1}]}}",
+        33,
+    ),
 ];
 
 /// `sendTo` and its targets.
 const SENDS: [(&[u8], usize); 18] = [
     (b"{\"actions\":{\"a\":{\"sendTo\":\"self\"}}}", 16),
-    (b"{\"actions\":{\"a\":{\"sendTo\":\"self\",\"delay\":1}}}", 16),
+    (
+        b"{\"actions\":{\"a\":{\"sendTo\":\"self\",\"delay\":1}}}",
+        16,
+    ),
     (b"{\"actions\":{\"a\":{\"sendTo\":5}}}", 16),
-    (b"{\"actions\":{\"a\":{\"sendTo\":\"other\",\"event\":1}}}", 26),
+    (
+        b"{\"actions\":{\"a\":{\"sendTo\":\"other\",\"event\":1}}}",
+        26,
+    ),
     (b"{\"actions\":{\"a\":{\"sendTo\":5,\"event\":1}}}", 26),
     (b"{\"actions\":{\"a\":{\"sendTo\":{},\"event\":1}}}", 26),
     (b"{\"actions\":{\"a\":{\"sendTo\":[],\"event\":1}}}", 26),
-    (b"{\"actions\":{\"a\":{\"sendTo\":{\"x\":1},\"event\":1}}}", 27),
-    (b"{\"actions\":{\"a\":{\"sendTo\":{\"child\":\"c\",\"system\":\"s\"},\"event\":1}}}", 39),
-    (b"{\"actions\":{\"a\":{\"sendTo\":{\"x\":1,\"child\":\"c\"},\"event\":1}}}", 27),
-    (b"{\"actions\":{\"a\":{\"sendTo\":{\"child\":{\"$no\":1}},\"event\":1}}}", 36),
-    (b"{\"actions\":{\"a\":{\"sendTo\":{\"system\":{\"$no\":1}},\"event\":1}}}", 37),
-    (b"{\"actions\":{\"a\":{\"sendTo\":\"self\",\"event\":{\"$no\":1}}}}", 42),
-    (b"{\"actions\":{\"a\":{\"sendTo\":\"self\",\"event\":1,\"delay\":{\"$no\":1}}}}", 52),
-    (b"{\"actions\":{\"a\":{\"sendTo\":\"self\",\"event\":1,\"id\":{\"$no\":1}}}}", 49),
-    (b"{\"actions\":{\"a\":{\"sendTo\":\"self\",\"event\":1,\"input\":1}}}", 43),
-    (b"{\"actions\":{\"a\":{\"x\":1,\"sendTo\":\"other\",\"event\":1}}}", 17),
-    (b"{\"actions\":{\"a\":{\"event\":{\"$no\":1},\"sendTo\":\"other\"}}}", 26),
+    (
+        b"{\"actions\":{\"a\":{\"sendTo\":{\"x\":1},\"event\":1}}}",
+        27,
+    ),
+    (
+        b"{\"actions\":{\"a\":{\"sendTo\":{\"child\":\"c\",\"system\":\"s\"},\"event\":1}}}",
+        39,
+    ),
+    (
+        b"{\"actions\":{\"a\":{\"sendTo\":{\"x\":1,\"child\":\"c\"},\"event\":1}}}",
+        27,
+    ),
+    (
+        b"{\"actions\":{\"a\":{\"sendTo\":{\"child\":{\"$no\":1}},\"event\":1}}}",
+        36,
+    ),
+    (
+        b"{\"actions\":{\"a\":{\"sendTo\":{\"system\":{\"$no\":1}},\"event\":1}}}",
+        37,
+    ),
+    (
+        b"{\"actions\":{\"a\":{\"sendTo\":\"self\",\"event\":{\"$no\":1}}}}",
+        42,
+    ),
+    (
+        b"{\"actions\":{\"a\":{\"sendTo\":\"self\",\"event\":1,\"delay\":{\"$no\":1}}}}",
+        52,
+    ),
+    (
+        b"{\"actions\":{\"a\":{\"sendTo\":\"self\",\"event\":1,\"id\":{\"$no\":1}}}}",
+        49,
+    ),
+    (
+        b"{\"actions\":{\"a\":{\"sendTo\":\"self\",\"event\":1,\"input\":1}}}",
+        43,
+    ),
+    (
+        b"{\"actions\":{\"a\":{\"x\":1,\"sendTo\":\"other\",\"event\":1}}}",
+        17,
+    ),
+    (
+        b"{\"actions\":{\"a\":{\"event\":{\"$no\":1},\"sendTo\":\"other\"}}}",
+        26,
+    ),
 ];
 
 /// Items of `enqueueActions`.
@@ -119,22 +194,70 @@ const ITEMS: [(&[u8], usize); 21] = [
     (b"{\"actions\":{\"a\":{\"enqueueActions\":[1]}}}", 35),
     (b"{\"actions\":{\"a\":{\"enqueueActions\":[{}]}}}", 35),
     (b"{\"actions\":{\"a\":{\"enqueueActions\":[[]]}}}", 35),
-    (b"{\"actions\":{\"a\":{\"enqueueActions\":[],\"id\":1}}}", 37),
-    (b"{\"actions\":{\"a\":{\"enqueueActions\":[{\"enqueueActions\":[]}]}}}", 36),
-    (b"{\"actions\":{\"a\":{\"enqueueActions\":[{\"x\":1}]}}}", 36),
-    (b"{\"actions\":{\"a\":{\"enqueueActions\":[{\"cancel\":{\"$no\":1}}]}}}", 46),
-    (b"{\"actions\":{\"a\":{\"enqueueActions\":[{\"if\":true}]}}}", 35),
-    (b"{\"actions\":{\"a\":{\"enqueueActions\":[{\"if\":true,\"else\":[]}]}}}", 35),
-    (b"{\"actions\":{\"a\":{\"enqueueActions\":[{\"then\":[],\"else\":[]}]}}}", 36),
-    (b"{\"actions\":{\"a\":{\"enqueueActions\":[{\"if\":{\"$no\":1},\"then\":[]}]}}}", 42),
-    (b"{\"actions\":{\"a\":{\"enqueueActions\":[{\"if\":true,\"then\":{}}]}}}", 53),
-    (b"{\"actions\":{\"a\":{\"enqueueActions\":[{\"if\":true,\"then\":[],\"else\":1}]}}}", 63),
-    (b"{\"actions\":{\"a\":{\"enqueueActions\":[{\"if\":true,\"then\":[{\"x\":1}]}]}}}", 55),
-    (b"{\"actions\":{\"a\":{\"enqueueActions\":[{\"if\":true,\"then\":[{\"enqueueActions\":[]}]}]}}}", 55),
-    (b"{\"actions\":{\"a\":{\"enqueueActions\":[{\"if\":true,\"then\":[],\"x\":1}]}}}", 56),
-    (b"{\"actions\":{\"a\":{\"enqueueActions\":[{\"if\":true,\"then\":[{\"if\":true,\"then\":[],\"else\":[{\"x\":1}]}]}]}}}", 84),
-    (b"{\"actions\":{\"a\":{\"enqueueActions\":[{\"cancel\":\"x\",\"if\":true}]}}}", 49),
-    (b"{\"actions\":{\"a\":{\"enqueueActions\":[{\"if\":true,\"then\":[],\"cancel\":1}]}}}", 56),
+    (
+        b"{\"actions\":{\"a\":{\"enqueueActions\":[],\"id\":1}}}",
+        37,
+    ),
+    (
+        b"{\"actions\":{\"a\":{\"enqueueActions\":[{\"enqueueActions\":[]}]}}}",
+        36,
+    ),
+    (
+        b"{\"actions\":{\"a\":{\"enqueueActions\":[{\"x\":1}]}}}",
+        36,
+    ),
+    (
+        b"{\"actions\":{\"a\":{\"enqueueActions\":[{\"cancel\":{\"$no\":1}}]}}}",
+        46,
+    ),
+    (
+        b"{\"actions\":{\"a\":{\"enqueueActions\":[{\"if\":true}]}}}",
+        35,
+    ),
+    (
+        b"{\"actions\":{\"a\":{\"enqueueActions\":[{\"if\":true,\"else\":[]}]}}}",
+        35,
+    ),
+    (
+        b"{\"actions\":{\"a\":{\"enqueueActions\":[{\"then\":[],\"else\":[]}]}}}",
+        36,
+    ),
+    (
+        b"{\"actions\":{\"a\":{\"enqueueActions\":[{\"if\":{\"$no\":1},\"then\":[]}]}}}",
+        42,
+    ),
+    (
+        b"{\"actions\":{\"a\":{\"enqueueActions\":[{\"if\":true,\"then\":{}}]}}}",
+        53,
+    ),
+    (
+        b"{\"actions\":{\"a\":{\"enqueueActions\":[{\"if\":true,\"then\":[],\"else\":1}]}}}",
+        63,
+    ),
+    (
+        b"{\"actions\":{\"a\":{\"enqueueActions\":[{\"if\":true,\"then\":[{\"x\":1}]}]}}}",
+        55,
+    ),
+    (
+        b"{\"actions\":{\"a\":{\"enqueueActions\":[{\"if\":true,\"then\":[{\"enqueueActions\":[]}]}]}}}",
+        55,
+    ),
+    (
+        b"{\"actions\":{\"a\":{\"enqueueActions\":[{\"if\":true,\"then\":[],\"x\":1}]}}}",
+        56,
+    ),
+    (
+        b"{\"actions\":{\"a\":{\"enqueueActions\":[{\"if\":true,\"then\":[{\"if\":true,\"then\":[],\"else\":[{\"x\":1}]}]}]}}}",
+        84,
+    ),
+    (
+        b"{\"actions\":{\"a\":{\"enqueueActions\":[{\"cancel\":\"x\",\"if\":true}]}}}",
+        49,
+    ),
+    (
+        b"{\"actions\":{\"a\":{\"enqueueActions\":[{\"if\":true,\"then\":[],\"cancel\":1}]}}}",
+        56,
+    ),
 ];
 
 /// Several faults, of which the one at the least place is answered.
@@ -143,7 +266,10 @@ const SEVERAL: [(&[u8], usize); 5] = [
     (b"{\"actors\":{\"a\":1},\"x\":1}", 15),
     (b"{\"actions\":{\"a\":{\"raise\":{\"$no\":1},\"x\":2}}}", 26),
     (b"{\"actions\":{\"a\":{\"sendTo\":\"other\"}}}", 16),
-    (b"{\"actions\":{\"a\":[{\"cancel\":{\"$no\":1}},5]},\"zzz\":1}", 28),
+    (
+        b"{\"actions\":{\"a\":[{\"cancel\":{\"$no\":1}},5]},\"zzz\":1}",
+        28,
+    ),
 ];
 
 /// Texts that are taken: each form with its parts.

@@ -31,8 +31,9 @@ first_fault-returns-in_ok-inner-in-Object t c =
     let taken : takes c.args.role (json.Object c.in-Object.place c.in-Object.members) ≡ true = ap (λ (j : OrderedJson). takes c.args.role j) (sym c.in-Object.is) ∙ sym c.takes.ensures ∙ c.if-not-takes.false in
     let complete_is : c.is_complete.result ≡ is_complete c.args.role (map member_parts c.in-Object.members) = c.is_complete.ensures ∙ ap (λ (ms : List Member). is_complete c.args.role (map member_parts ms)) c.as_slice-in-Object.ensures in
     let own_is : c.if-is_complete.own ≡ (if is_complete c.args.role (map member_parts c.in-Object.members) then None else Some c.in-Object.place) = elim c.if-is_complete.branch [
-      first_fault-then-is_complete w ↦ w.own-is ∙ ap (λ (b : Bool). if b then None else Some c.in-Object.place) (sym w.if-is_complete.true ∙ complete_is)
-    | first_fault-else-is_complete w ↦ w.own-is ∙ ap (λ (b : Bool). if b then None else Some c.in-Object.place) (sym w.if-is_complete.false ∙ complete_is) ] in
+      | first_fault-then-is_complete w ↦ w.own-is ∙ ap (λ (b : Bool). if b then None else Some c.in-Object.place) (sym w.if-is_complete.true ∙ complete_is)
+      | first_fault-else-is_complete w ↦ w.own-is ∙ ap (λ (b : Bool). if b then None else Some c.in-Object.place) (sym w.if-is_complete.false ∙ complete_is)
+    ] in
     let shape_is : c.shape_of-shape.result ≡ shape_of c.args.role (map member_parts c.in-Object.members) = c.shape_of-shape.ensures ∙ ap (λ (ms : List Member). shape_of c.args.role (map member_parts ms)) c.as_slice.ensures in
     subst (λ (j : OrderedJson). IsLeastOf (HasTableFault c.args.role j) c.least_of.result) (sym c.in-Object.is)
     (object-least c.args.role c.in-Object.place c.in-Object.members c.if-is_complete.own c.in_ok-inner-in-Object.inner c.least_of.result (not-expression c.args.role c.in_default.not-Expression) taken own_is
@@ -74,16 +75,17 @@ first_of_members-loop-member-init t c = members-none c.args.role c.args.shape
 pub first_of_members-loop-member-preserved : goal.first_of_members-loop-member-preserved
 first_of_members-loop-member-preserved t c =
     let more_is : map member_parts (take (c.loop-member.member-index + 1) c.args.members.now) ≡ map member_parts (take c.loop-member.member-index c.args.members.now) ++ member_parts c.member-item.result ∷ [] =
-        ap (λ (l : List Member). map member_parts l) (take_more c.args.members.now c.loop-member.member-index c.member-item.result c.loop-member-test.true ∙ ap (λ (m : Member). take c.loop-member.member-index c.args.members.now ++ m ∷ []) (sym c.member-item.is))
-        ∙ map-append member_parts (take c.loop-member.member-index c.args.members.now) (c.member-item.result ∷ []) in
+    ap (λ (l : List Member). map member_parts l) (take_more c.args.members.now c.loop-member.member-index c.member-item.result c.loop-member-test.true ∙ ap (λ (m : Member). take c.loop-member.member-index c.args.members.now ++ m ∷ []) (sym c.member-item.is))
+    ∙ map-append member_parts (take c.loop-member.member-index c.args.members.now) (c.member-item.result ∷ []) in
     let role_is : c.key_role.result ≡ key_role c.args.role c.args.shape (member_parts c.member-item.result).key = c.key_role.ensures ∙ ap (λ (k : List ℕ). key_role c.args.role c.args.shape k) c.as_bytes.ensures in
     let here : IsLeastOf (HasMemberFault c.args.role c.args.shape (member_parts c.member-item.result ∷ [])) c.match-key_role.found = elim c.match-key_role.branch [
-      first_of_members-in-Some+in_ok-found-in-Some w ↦
-        subst (λ (o : Option ℕ). IsLeastOf (HasMemberFault c.args.role c.args.shape (member_parts c.member-item.result ∷ [])) o) (sym w.found-is)
-        (one-value c.args.role c.args.shape (member_parts c.member-item.result) w.in-Some.part w.in_ok-found-in-Some.found (sym role_is ∙ w.in-Some.is) w.in_ok-found-in-Some.ensures)
-    | first_of_members-in-None w ↦
-        subst (λ (o : Option ℕ). IsLeastOf (HasMemberFault c.args.role c.args.shape (member_parts c.member-item.result ∷ [])) o) (sym w.found-is)
-        (one-key c.args.role c.args.shape (member_parts c.member-item.result) (sym role_is ∙ w.in-None.is)) ] in
+      | first_of_members-in-Some+in_ok-found-in-Some w ↦
+          subst (λ (o : Option ℕ). IsLeastOf (HasMemberFault c.args.role c.args.shape (member_parts c.member-item.result ∷ [])) o) (sym w.found-is)
+          (one-value c.args.role c.args.shape (member_parts c.member-item.result) w.in-Some.part w.in_ok-found-in-Some.found (sym role_is ∙ w.in-Some.is) w.in_ok-found-in-Some.ensures)
+      | first_of_members-in-None w ↦
+          subst (λ (o : Option ℕ). IsLeastOf (HasMemberFault c.args.role c.args.shape (member_parts c.member-item.result ∷ [])) o) (sym w.found-is)
+          (one-key c.args.role c.args.shape (member_parts c.member-item.result) (sym role_is ∙ w.in-None.is))
+    ] in
     subst (λ (ms : List MemberParts). IsLeastOf (HasMemberFault c.args.role c.args.shape ms) c.least_of-least.result) (sym more_is)
     (subst (λ (o : Option ℕ). IsLeastOf (HasMemberFault c.args.role c.args.shape (map member_parts (take c.loop-member.member-index c.args.members.now) ++ member_parts c.member-item.result ∷ [])) o) (sym c.least_of-least.ensures)
     (members-more c.args.role c.args.shape (map member_parts (take c.loop-member.member-index c.args.members.now)) (member_parts c.member-item.result) c.loop-member.least c.match-key_role.found c.loop-member.invariant here))
