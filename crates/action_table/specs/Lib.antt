@@ -1,0 +1,3 @@
+pub mod Shapes
+pub mod TableFaults
+pub mod TablePlaces

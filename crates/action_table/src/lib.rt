@@ -1,0 +1,15 @@
+//! The table of implementations: what the guards, actions, delays and actors stand for that machines
+//! use by name.
+#![tactic(auto)]
+
+mod fault;
+mod first;
+mod role;
+mod table;
+#[cfg(test)]
+mod tests;
+
+pub use fault::TableFault;
+pub use first::first_fault;
+pub use role::TableRole;
+pub use table::{Table, TableActor, UnlinkedForm, UnlinkedForms, UnlinkedItem, UnlinkedItems};

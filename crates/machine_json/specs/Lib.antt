@@ -1,0 +1,11 @@
+pub mod ExpressionParts
+pub mod Expressions
+pub mod Fields
+pub mod FirstFaults
+pub mod FirstPass
+pub mod JsonValues
+pub mod Keys
+pub mod Laws
+pub mod MachineFaults
+pub mod NodeKinds
+pub mod Roles

@@ -1,0 +1,28 @@
+//! Machine texts: reads JSON as the definition of a machine, and the expressions in it.
+#![tactic(auto)]
+
+#[cfg(test)]
+mod expression_tests;
+mod expressions;
+mod fault;
+mod field;
+mod first;
+mod first_pass;
+mod key;
+mod kind_word;
+pub mod laws;
+mod machine;
+mod role;
+mod role_value;
+mod values;
+
+pub use expressions::{FormFault, FormPlace, Operator, read_expr, read_form};
+pub use fault::MachineFault;
+pub use key::MAX_DELAY;
+pub use kind_word::NodeKind;
+pub use machine::{
+    Machine, Named, Texts, UnlinkedAction, UnlinkedActions, UnlinkedDelay, UnlinkedDelays,
+    UnlinkedGuard, UnlinkedGuards, UnlinkedInvocation, UnlinkedInvocations, UnlinkedNode,
+    UnlinkedNodes, UnlinkedTransition, UnlinkedTransitions,
+};
+pub use values::json_value;
