@@ -1,5 +1,6 @@
 mod FirstLemmas
 mod KeyLemmas
+mod NodeLemmas
 mod OwnLemmas
 mod PartLemmas
 mod TestLemmas

@@ -7,4 +7,5 @@ pub mod JsonValues
 pub mod Keys
 pub mod MachineFaults
 pub mod NodeKinds
+pub mod Nodes
 pub mod Roles

@@ -71,9 +71,18 @@ pub const OPERATORS: [(&str, Operator); 22] = [
     ("$params", Operator::Path(PathRoot::Params)),
     ("$input", Operator::Path(PathRoot::Input)),
     ("$or_else", Operator::OrElse),
-    ("$add", Operator::Binary(Binary::Arithmetic(Arithmetic::Add))),
-    ("$sub", Operator::Binary(Binary::Arithmetic(Arithmetic::Sub))),
-    ("$mul", Operator::Binary(Binary::Arithmetic(Arithmetic::Mul))),
+    (
+        "$add",
+        Operator::Binary(Binary::Arithmetic(Arithmetic::Add)),
+    ),
+    (
+        "$sub",
+        Operator::Binary(Binary::Arithmetic(Arithmetic::Sub)),
+    ),
+    (
+        "$mul",
+        Operator::Binary(Binary::Arithmetic(Arithmetic::Mul)),
+    ),
     ("$div", Operator::Binary(Binary::Division(Division::Div))),
     ("$rem", Operator::Binary(Binary::Division(Division::Rem))),
     ("$concat", Operator::Binary(Binary::Concat)),
@@ -82,7 +91,10 @@ pub const OPERATORS: [(&str, Operator); 22] = [
     ("$len", Operator::Unary(Unary::Len)),
     ("$eq", Operator::Binary(Binary::Equal)),
     ("$lt", Operator::Binary(Binary::Compare(Comparison::Less))),
-    ("$le", Operator::Binary(Binary::Compare(Comparison::LessOrEqual))),
+    (
+        "$le",
+        Operator::Binary(Binary::Compare(Comparison::LessOrEqual)),
+    ),
     ("$and", Operator::Connect(Connective::And)),
     ("$or", Operator::Connect(Connective::Or)),
     ("$not", Operator::Unary(Unary::Not)),

@@ -4,11 +4,13 @@
 mod expressions;
 mod fault;
 mod field;
+mod fields_check;
 mod first;
 mod first_pass;
 mod key;
 mod kind_word;
 mod machine;
+mod nodes;
 mod role;
 mod role_value;
 #[cfg(test)]
@@ -17,6 +19,7 @@ mod values;
 
 pub use expressions::{FormFault, FormPlace, Operator, read_expr, read_form};
 pub use fault::MachineFault;
+pub use fields_check::check_fields;
 pub use key::MAX_DELAY;
 pub use kind_word::NodeKind;
 pub use machine::{
@@ -24,4 +27,5 @@ pub use machine::{
     UnlinkedGuard, UnlinkedGuards, UnlinkedInvocation, UnlinkedInvocations, UnlinkedNode,
     UnlinkedNodes, UnlinkedTransition, UnlinkedTransitions,
 };
+pub use nodes::MAX_NODES;
 pub use values::json_value;

@@ -31,9 +31,18 @@ fn unknown_operator(alloc: Global, text: &[u8]) -> Result<Option<usize>, Fail> {
 fn takes_forms(rt: HostRuntime) -> Result<(), Fail> {
     let alloc = rt.alloc();
     assert_eq!(rt; unknown(alloc, b"null".as_slice())?, None);
-    assert_eq!(rt; unknown(alloc, b"[1,true,\"x\",{\"a\":1}]".as_slice())?, None);
-    assert_eq!(rt; unknown(alloc, b"{\"$add\":[1,{\"$context\":\"n\"}]}".as_slice())?, None);
-    assert_eq!(rt; unknown(alloc, b"{\"$lit\":{\"$no\":1,\"b\":2}}".as_slice())?, None);
+    assert_eq!(rt;
+        unknown(alloc, b"[1,true,\"x\",{\"a\":1}]".as_slice())?,
+        None
+    );
+    assert_eq!(rt;
+        unknown(alloc, b"{\"$add\":[1,{\"$context\":\"n\"}]}".as_slice())?,
+        None
+    );
+    assert_eq!(rt;
+        unknown(alloc, b"{\"$lit\":{\"$no\":1,\"b\":2}}".as_slice())?,
+        None
+    );
     Ok(())
 }
 
@@ -41,16 +50,31 @@ fn takes_forms(rt: HostRuntime) -> Result<(), Fail> {
 fn answers_at_the_object(rt: HostRuntime) -> Result<(), Fail> {
     let alloc = rt.alloc();
     assert_eq!(rt; unknown(alloc, b"{\"$no\":1}".as_slice())?, Some(0));
-    assert_eq!(rt; unknown(alloc, b"[1,{\"a\":1,\"$lit\":2}]".as_slice())?, Some(3));
-    assert_eq!(rt; unknown(alloc, b"{\"$add\":[{\"$a\":1},{\"$b\":1}]}".as_slice())?, Some(9));
-    assert_eq!(rt; unknown(alloc, b"{\"$add\":[{\"$a\":1}]}".as_slice())?, Some(0));
+    assert_eq!(rt;
+        unknown(alloc, b"[1,{\"a\":1,\"$lit\":2}]".as_slice())?,
+        Some(3)
+    );
+    assert_eq!(rt;
+        unknown(alloc, b"{\"$add\":[{\"$a\":1},{\"$b\":1}]}".as_slice())?,
+        Some(9)
+    );
+    assert_eq!(rt;
+        unknown(alloc, b"{\"$add\":[{\"$a\":1}]}".as_slice())?,
+        Some(0)
+    );
     Ok(())
 }
 
 #[test]
 fn answers_at_the_operator(rt: HostRuntime) -> Result<(), Fail> {
     let alloc = rt.alloc();
-    assert_eq!(rt; unknown_operator(alloc, b"{\"a\":1,\"$lit\":2}".as_slice())?, Some(7));
-    assert_eq!(rt; unknown_operator(alloc, b"{\"$not\":{\"$x\":1}}".as_slice())?, Some(9));
+    assert_eq!(rt;
+        unknown_operator(alloc, b"{\"a\":1,\"$lit\":2}".as_slice())?,
+        Some(7)
+    );
+    assert_eq!(rt;
+        unknown_operator(alloc, b"{\"$not\":{\"$x\":1}}".as_slice())?,
+        Some(9)
+    );
     Ok(())
 }
