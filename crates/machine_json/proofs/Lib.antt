@@ -1,8 +1,10 @@
+pub mod ExpressionLemmas
 mod FirstLemmas
 mod KeyLemmas
+pub mod MeaningLemmas
+pub mod MemberLemmas
 mod NodeLemmas
 mod OwnLemmas
 mod PartLemmas
 mod TestLemmas
-pub mod ExpressionLemmas
 pub mod ValueLemmas

@@ -1,5 +1,5 @@
 -- What the parts of a reading of expressions answer.
-use Rattle.std.specs.Prelude.{◌≡◌, ℕ, min, nat_le, List, [], ◌∷◌, map, Option, None, Some, Result, Ok, Err, if◌then◌else◌}
+use Rattle.std.specs.Prelude.{◌≡◌, ℕ, min, List, [], ◌∷◌, map, Option, None, Some, Result, Ok, Err}
 use Rattle.ordered_json.specs.declared.json.OrderedJson.{OrderedJson}
 use Rattle.ordered_json.specs.Words.{MemberParts, as_text}
 use Rattle.xs_model.specs.declared.expr.Expr.{Expr, out-Expr}
@@ -16,7 +16,7 @@ use Rattle.machine_json.specs.FirstFaults.{IsLeastPlace}
 -- the lesser of the places so far and one more
 abbrev pub lesser : Option ℕ → ℕ → Option ℕ
 lesser None place = Some place
-lesser (Some other) place = if nat_le other place then Some other else Some place
+lesser (Some other) place = Some (min other place)
 
 -- both, or the fault at the lesser place; want of memory comes before any fault
 abbrev pub joined : {X Y : Type 0} → Result X FormFault → Result Y FormFault → Result (X × Y) FormFault
@@ -65,13 +65,17 @@ IsPathReading root unknown (Some path) (Ok expr) = out-Expr expr ≡ Expr-F.Path
 IsPathReading root unknown (Some path) (Err (Unknown place)) = ⊥
 IsPathReading root unknown (Some path) (Err Memory) = Unit {0}
 
--- what reading a list of operands answers, where `take` gives those that there have to be
+-- what reading each of a list answers
+abbrev pub IsEachReading : FormPlace → List OrderedJson → Result (List Expr) FormFault → Type 0
+IsEachReading answered jsons (Ok exprs) = EachMeans jsons exprs
+IsEachReading answered jsons (Err fault) = IsFirstUnknown answered jsons fault
+
+-- what reading a list of operands answers, where None is a list of another length
 abbrev pub IsListReading : FormPlace → ℕ → Option (List OrderedJson) → Result (List Expr) FormFault → Type 0
 IsListReading answered unknown None (Ok exprs) = ⊥
 IsListReading answered unknown None (Err (Unknown place)) = place ≡ unknown
 IsListReading answered unknown None (Err Memory) = Unit {0}
-IsListReading answered unknown (Some jsons) (Ok exprs) = EachMeans jsons exprs
-IsListReading answered unknown (Some jsons) (Err fault) = IsFirstUnknown answered jsons fault
+IsListReading answered unknown (Some jsons) result = IsEachReading answered jsons result
 
 -- the list if it has two members, and if it has three
 abbrev pub if_two : Option (List OrderedJson) → Option (List OrderedJson)
@@ -82,18 +86,24 @@ abbrev pub if_three : Option (List OrderedJson) → Option (List OrderedJson)
 if_three (Some (a ∷ b ∷ c ∷ [])) = Some (a ∷ b ∷ c ∷ [])
 if_three _ = None
 
--- two and three expressions as a list
-abbrev pub two_of : Result (Expr × Expr) FormFault → Result (List Expr) FormFault
-two_of (Ok pair) = Ok (pair.0 ∷ pair.1 ∷ [])
-two_of (Err fault) = Err fault
+-- what is made of the answer, or its fault
+abbrev pub made_of : {X Y : Type 0} → (X → Y) → Result X FormFault → Result Y FormFault
+made_of make (Ok x) = Ok (make x)
+made_of make (Err fault) = Err fault
 
-abbrev pub three_of : Result (Expr × (Expr × Expr)) FormFault → Result (List Expr) FormFault
-three_of (Ok parts) = Ok (parts.0 ∷ parts.1.0 ∷ parts.1.1 ∷ [])
-three_of (Err fault) = Err fault
+-- one, two and three expressions as a list
+abbrev pub one_listed : Expr → List Expr
+one_listed expr = expr ∷ []
+
+abbrev pub two_listed : Expr × Expr → List Expr
+two_listed exprs = exprs.0 ∷ one_listed exprs.1
+
+abbrev pub three_listed : Expr × (Expr × Expr) → List Expr
+three_listed exprs = exprs.0 ∷ two_listed exprs.1
 
 -- what reading a list of two operands answers, and one of three
 abbrev pub IsTwoReading : FormPlace → ℕ → Option (List OrderedJson) → Result (Expr × Expr) FormFault → Type 0
-IsTwoReading answered unknown jsons result = IsListReading answered unknown (if_two jsons) (two_of result)
+IsTwoReading answered unknown jsons result = IsListReading answered unknown (if_two jsons) (made_of two_listed result)
 
 abbrev pub IsThreeReading : FormPlace → ℕ → Option (List OrderedJson) → Result (Expr × (Expr × Expr)) FormFault → Type 0
-IsThreeReading answered unknown jsons result = IsListReading answered unknown (if_three jsons) (three_of result)
+IsThreeReading answered unknown jsons result = IsListReading answered unknown (if_three jsons) (made_of three_listed result)

@@ -1,6 +1,7 @@
 -- What JSON means as an expression: the table of forms, and what is in none of them.
 use Rattle.std.specs.Prelude.{◌≡◌, ℕ, Bool, not, ◌==◌, List, [], ◌∷◌, map, codes, Contains, Option, None, Some, option_map, option_and_then, find, Result, Ok, Err, if◌then◌else◌, unwrap_or}
 use Rattle.std.specs.List.{list_any}
+use Rattle.std.specs.Option.{option_or}
 use Rattle.std.specs.Str.{bytes_eq}
 use Rattle.std.specs.Map.{lookup}
 use Rattle.xs_data.specs.Ascii.{dollar_sign}
@@ -30,36 +31,48 @@ use Rattle.machine_json.specs.JsonValues.{json_value}
 
 -- ---- the table of operators
 
--- the operators that a key alone names
-abbrev pub operators : List (List ℕ × Operator)
-operators =
+-- the operators over a path
+abbrev pub path_operators : List (List ℕ × Operator)
+path_operators =
     (codes "$context", operator.Path Context)
     ∷ (codes "$event", operator.Path Event)
     ∷ (codes "$params", operator.Path Params)
     ∷ (codes "$input", operator.Path Input)
-    ∷ (codes "$or_else", operator.OrElse)
-    ∷ (codes "$add", operator.Binary (Arithmetic Add))
+    ∷ []
+
+-- the operators over the values of two operands
+abbrev pub binary_operators : List (List ℕ × Operator)
+binary_operators =
+    (codes "$add", operator.Binary (Arithmetic Add))
     ∷ (codes "$sub", operator.Binary (Arithmetic Sub))
     ∷ (codes "$mul", operator.Binary (Arithmetic Mul))
     ∷ (codes "$div", operator.Binary (Division Div))
     ∷ (codes "$rem", operator.Binary (Division Rem))
     ∷ (codes "$concat", operator.Binary Concat)
-    ∷ (codes "$text", operator.Unary Decimal)
     ∷ (codes "$append", operator.Binary Append)
-    ∷ (codes "$len", operator.Unary Len)
     ∷ (codes "$eq", operator.Binary Equal)
     ∷ (codes "$lt", operator.Binary (Compare Less))
     ∷ (codes "$le", operator.Binary (Compare LessOrEqual))
+    ∷ []
+
+-- the operators over the value of one operand, over operands that aren't all evaluated, and `$lit`
+abbrev pub other_operators : List (List ℕ × Operator)
+other_operators =
+    (codes "$text", operator.Unary Decimal)
+    ∷ (codes "$len", operator.Unary Len)
+    ∷ (codes "$not", operator.Unary Not)
+    ∷ (codes "$or_else", operator.OrElse)
     ∷ (codes "$and", operator.Connect And)
     ∷ (codes "$or", operator.Connect Or)
-    ∷ (codes "$not", operator.Unary Not)
     ∷ (codes "$if", operator.If)
     ∷ (codes "$lit", operator.Lit)
     ∷ []
 
 -- the operator that a key names
-abbrev pub operator_of : List ℕ → Option Operator
-operator_of key = lookup (bytes_eq key) operators
+unfoldable pub operator_of : List ℕ → Option Operator
+operator_of key =
+    option_or (lookup (bytes_eq key) path_operators)
+    (option_or (lookup (bytes_eq key) binary_operators) (lookup (bytes_eq key) other_operators))
 
 -- ---- one layer: the form, with JSON in place of its operands
 
@@ -171,10 +184,14 @@ abbrev pub operator_place : List MemberParts → Option ℕ
 operator_place members =
     option_map (λ member. member.key_place) (find (λ member. begins_with_dollar member.key) members)
 
+-- an object in no form is answered at its own place, or at that of a key
+abbrev pub place_at : FormPlace → ℕ → ℕ → ℕ
+place_at AtObject place key_place = place
+place_at AtOperator place key_place = key_place
+
 -- where an object in no form is answered that begins at the place: there, or at its first key that begins with `$`
 abbrev pub object_place : FormPlace → ℕ → List MemberParts → ℕ
-object_place AtObject place members = place
-object_place AtOperator place members = unwrap_or (operator_place members) place
+object_place answered place members = place_at answered place (unwrap_or (operator_place members) place)
 
 -- where JSON in no form is answered
 abbrev pub form_place : FormPlace → OrderedJson → ℕ

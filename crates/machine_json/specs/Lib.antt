@@ -5,6 +5,7 @@ pub mod FirstFaults
 pub mod FirstPass
 pub mod JsonValues
 pub mod Keys
+pub mod Laws
 pub mod MachineFaults
 pub mod NodeKinds
 pub mod Nodes

@@ -3,7 +3,9 @@
 ghost use Rattle.std.specs.Prelude.{◌≡◌, map, find, IfOk, IfErr};
 ghost use Rattle.std.specs.Option.{option_copied};
 ghost use Rattle.ordered_json.specs.Words.{member_parts, key_of, as_list, as_text};
-ghost use Rattle.machine_json.specs.Expressions.{begins_with_dollar, operator_of, object_form, member_form, object_place, EachMeans, IsReading, IsExprReading};
+ghost use Rattle.std.specs.Str.{bytes_eq};
+ghost use Rattle.std.specs.Map.{lookup};
+ghost use Rattle.machine_json.specs.Expressions.{begins_with_dollar, binary_operators, operator_of, other_operators, path_operators, object_form, member_form, object_place, place_at, EachMeans, IsReading, IsExprReading};
 ghost use Rattle.machine_json.specs.ExpressionParts.{values_under, joined, lesser, HaveKeysAndMean, IsFirstUnknown, IsFormReading, IsPathReading, IsTwoReading, IsThreeReading};
 
 use crate::fault::MachineFault;
@@ -64,44 +66,6 @@ pub enum Operator {
     Lit,
 }
 
-/// The operators by their keys.
-pub const OPERATORS: [(&str, Operator); 22] = [
-    ("$context", Operator::Path(PathRoot::Context)),
-    ("$event", Operator::Path(PathRoot::Event)),
-    ("$params", Operator::Path(PathRoot::Params)),
-    ("$input", Operator::Path(PathRoot::Input)),
-    ("$or_else", Operator::OrElse),
-    (
-        "$add",
-        Operator::Binary(Binary::Arithmetic(Arithmetic::Add)),
-    ),
-    (
-        "$sub",
-        Operator::Binary(Binary::Arithmetic(Arithmetic::Sub)),
-    ),
-    (
-        "$mul",
-        Operator::Binary(Binary::Arithmetic(Arithmetic::Mul)),
-    ),
-    ("$div", Operator::Binary(Binary::Division(Division::Div))),
-    ("$rem", Operator::Binary(Binary::Division(Division::Rem))),
-    ("$concat", Operator::Binary(Binary::Concat)),
-    ("$text", Operator::Unary(Unary::Decimal)),
-    ("$append", Operator::Binary(Binary::Append)),
-    ("$len", Operator::Unary(Unary::Len)),
-    ("$eq", Operator::Binary(Binary::Equal)),
-    ("$lt", Operator::Binary(Binary::Compare(Comparison::Less))),
-    (
-        "$le",
-        Operator::Binary(Binary::Compare(Comparison::LessOrEqual)),
-    ),
-    ("$and", Operator::Connect(Connective::And)),
-    ("$or", Operator::Connect(Connective::Or)),
-    ("$not", Operator::Unary(Unary::Not)),
-    ("$if", Operator::If),
-    ("$lit", Operator::Lit),
-];
-
 /// Reads JSON as an expression. An object in no form is `BadKind`, of several the one at the least
 /// place. The cost is that of a copy.
 pub fn read_expr(alloc: Global, text: &OrderedJson) -> Result<Expr, MachineFault>
@@ -150,13 +114,21 @@ fn read_object(
         let parts = read_map(alloc, members, answered)?;
         return Ok(Expr::Map(Items::from_vec(parts)));
     };
-    let unknown = match answered {
-        FormPlace::AtObject => place,
-        FormPlace::AtOperator => first.key_place,
-    };
+    let unknown = unknown_place(place, first, answered);
     match members {
         [only] => read_operator(alloc, only, unknown, answered),
         _ => Err(FormFault::Unknown(unknown)),
+    }
+}
+
+/// Where an object in no form is answered that begins at the place, by its first member whose key
+/// begins with `$`.
+fn unknown_place(place: usize, first: &Member, answered: FormPlace) -> usize
+    ensures { result ≡ place_at answered place (member_parts first.now).key_place }
+{
+    match answered {
+        FormPlace::AtObject => place,
+        FormPlace::AtOperator => first.key_place,
     }
 }
 
@@ -329,8 +301,8 @@ fn lesser(least: Option<usize>, place: usize) -> Option<usize>
     ensures { result ≡ lesser least place }
 {
     match least {
-        Some(other) if other <= place => Some(other),
-        _ => Some(place),
+        Some(other) => Some(other.min(place)),
+        None => Some(place),
     }
 }
 
@@ -375,6 +347,99 @@ fn begins_with_dollar(key: &[u8]) -> bool
 fn operator_of(key: &[u8]) -> Option<Operator>
     ensures { result ≡ operator_of key.now }
 {
-    let row = OPERATORS.iter().find(|row| key == row.0.as_bytes())?;
-    Some(row.1)
+    if let Some(operator) = path_operator(key) {
+        return Some(operator);
+    }
+    if let Some(operator) = binary_operator(key) {
+        return Some(operator);
+    }
+    other_operator(key)
+}
+
+/// The operator over a path that a key names.
+fn path_operator(key: &[u8]) -> Option<Operator>
+    ensures { result ≡ lookup (bytes_eq key.now) path_operators }
+{
+    if key == b"$context".as_slice() {
+        return Some(Operator::Path(PathRoot::Context));
+    }
+    if key == b"$event".as_slice() {
+        return Some(Operator::Path(PathRoot::Event));
+    }
+    if key == b"$params".as_slice() {
+        return Some(Operator::Path(PathRoot::Params));
+    }
+    if key == b"$input".as_slice() {
+        return Some(Operator::Path(PathRoot::Input));
+    }
+    None
+}
+
+/// The operator over the values of two operands that a key names.
+fn binary_operator(key: &[u8]) -> Option<Operator>
+    ensures { result ≡ lookup (bytes_eq key.now) binary_operators }
+{
+    if key == b"$add".as_slice() {
+        return Some(Operator::Binary(Binary::Arithmetic(Arithmetic::Add)));
+    }
+    if key == b"$sub".as_slice() {
+        return Some(Operator::Binary(Binary::Arithmetic(Arithmetic::Sub)));
+    }
+    if key == b"$mul".as_slice() {
+        return Some(Operator::Binary(Binary::Arithmetic(Arithmetic::Mul)));
+    }
+    if key == b"$div".as_slice() {
+        return Some(Operator::Binary(Binary::Division(Division::Div)));
+    }
+    if key == b"$rem".as_slice() {
+        return Some(Operator::Binary(Binary::Division(Division::Rem)));
+    }
+    if key == b"$concat".as_slice() {
+        return Some(Operator::Binary(Binary::Concat));
+    }
+    if key == b"$append".as_slice() {
+        return Some(Operator::Binary(Binary::Append));
+    }
+    if key == b"$eq".as_slice() {
+        return Some(Operator::Binary(Binary::Equal));
+    }
+    if key == b"$lt".as_slice() {
+        return Some(Operator::Binary(Binary::Compare(Comparison::Less)));
+    }
+    if key == b"$le".as_slice() {
+        return Some(Operator::Binary(Binary::Compare(Comparison::LessOrEqual)));
+    }
+    None
+}
+
+/// The operator that a key names, of those over one operand, over operands that aren't all
+/// evaluated, and over any JSON.
+fn other_operator(key: &[u8]) -> Option<Operator>
+    ensures { result ≡ lookup (bytes_eq key.now) other_operators }
+{
+    if key == b"$text".as_slice() {
+        return Some(Operator::Unary(Unary::Decimal));
+    }
+    if key == b"$len".as_slice() {
+        return Some(Operator::Unary(Unary::Len));
+    }
+    if key == b"$not".as_slice() {
+        return Some(Operator::Unary(Unary::Not));
+    }
+    if key == b"$or_else".as_slice() {
+        return Some(Operator::OrElse);
+    }
+    if key == b"$and".as_slice() {
+        return Some(Operator::Connect(Connective::And));
+    }
+    if key == b"$or".as_slice() {
+        return Some(Operator::Connect(Connective::Or));
+    }
+    if key == b"$if".as_slice() {
+        return Some(Operator::If);
+    }
+    if key == b"$lit".as_slice() {
+        return Some(Operator::Lit);
+    }
+    None
 }

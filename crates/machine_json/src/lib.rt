@@ -1,6 +1,8 @@
 //! Machine texts: reads JSON as the definition of a machine, and the expressions in it.
 #![tactic(auto)]
 
+#[cfg(test)]
+mod expression_tests;
 mod expressions;
 mod fault;
 mod field;
@@ -9,12 +11,11 @@ mod first;
 mod first_pass;
 mod key;
 mod kind_word;
+pub mod laws;
 mod machine;
 mod nodes;
 mod role;
 mod role_value;
-#[cfg(test)]
-mod tests;
 mod values;
 
 pub use expressions::{FormFault, FormPlace, Operator, read_expr, read_form};

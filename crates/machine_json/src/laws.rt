@@ -1,0 +1,9 @@
+//! Laws of the definitions that the contracts cite, as contracts of calls that change nothing.
+
+ghost use Rattle.machine_json.specs.Laws.{ExprMeansOnce};
+
+/// JSON as an expression has one meaning at most, one place at most where it is refused, and never
+/// both.
+pub fn expression_means_once()
+    ensures { ExprMeansOnce }
+{}
