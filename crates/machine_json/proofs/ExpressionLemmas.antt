@@ -76,11 +76,13 @@ le_or p q = search (rules, arith)
 pub least_min : (A B C : ℕ → Type 0) (p q : ℕ) → IsLeastPlace A p → IsLeastPlace B q → ((n : ℕ) → A n → C n) → ((n : ℕ) → B n → C n) → ((n : ℕ) → C n → A n ⊎ B n) → IsLeastPlace C (min p q)
 least_min A B C p q a b from_a from_b split = record {
   there = elim (le_or p q) [
-    inl below ↦ subst C (omega arith) (from_a p a.there)
-  | inr above ↦ subst C (omega arith) (from_b q b.there) ];
+    | inl below ↦ subst C (omega arith) (from_a p a.there)
+    | inr above ↦ subst C (omega arith) (from_b q b.there)
+  ];
   no_earlier = λ other has. elim (split other has) [
-    inl in_a ↦ omega (arith, a.no_earlier other in_a)
-  | inr in_b ↦ omega (arith, b.no_earlier other in_b) ];
+    | inl in_a ↦ omega (arith, a.no_earlier other in_a)
+    | inr in_b ↦ omega (arith, b.no_earlier other in_b)
+  ];
 }
 
 -- the least where the other kind has no place
@@ -88,16 +90,18 @@ pub least_left : (A B C : ℕ → Type 0) (p : ℕ) → IsLeastPlace A p → ((n
 least_left A B C p a no_b from_a split = record {
   there = from_a p a.there;
   no_earlier = λ other has. elim (split other has) [
-    inl in_a ↦ a.no_earlier other in_a
-  | inr in_b ↦ absurd (no_b other in_b) ];
+    | inl in_a ↦ a.no_earlier other in_a
+    | inr in_b ↦ absurd (no_b other in_b)
+  ];
 }
 
 pub least_right : (A B C : ℕ → Type 0) (q : ℕ) → IsLeastPlace B q → ((n : ℕ) → A n → ⊥) → ((n : ℕ) → B n → C n) → ((n : ℕ) → C n → A n ⊎ B n) → IsLeastPlace C q
 least_right A B C q b no_a from_b split = record {
   there = from_b q b.there;
   no_earlier = λ other has. elim (split other has) [
-    inl in_a ↦ absurd (no_a other in_a)
-  | inr in_b ↦ b.no_earlier other in_b ];
+    | inl in_a ↦ absurd (no_a other in_a)
+    | inr in_b ↦ b.no_earlier other in_b
+  ];
 }
 
 -- ---- a loop over a list
@@ -187,7 +191,6 @@ pub unary-reading : (answered : FormPlace) (unknown : ℕ) (op : Unary) (json : 
 unary-reading answered unknown op json (Ok e) it = form-means (Expr-F.Unary op json) (expr.Unary op e) (Expr-F.Unary op e) (search (rules, the_lemmas)) refl (more json e [] [] it none)
 unary-reading answered unknown op json (Err Memory) it = tt
 unary-reading answered unknown op json (Err (Unknown place)) it = each-one answered json (Err (Unknown place)) it
-
 
 -- where there are no operands the answer is that of no form
 no_form-reading : {X : Type 0} (answered : FormPlace) (unknown : ℕ) (listed : X → List Expr) (make : X → Expr) (result : Result X FormFault) → IsListReading answered unknown None (made_of listed result) → IsFormReading answered unknown None (made_of make result)

@@ -30,7 +30,6 @@ filled (Expr-F.If test a b) (x ∷ y ∷ z ∷ []) = Expr-F.If x y z
 filled (Expr-F.Lit value) xs = Expr-F.Lit value
 filled _ xs = Expr-F.Null
 
-
 keyed-same : (parts : List (List ℕ × Expr)) → keyed (map (λ (part : List ℕ × Expr). let pair : List ℕ × Unit {0} = (part.0, tt {0}) in pair) parts) (map (λ (part : List ℕ × Expr). part.1) parts) ≡ parts
 keyed-same [] = refl
 keyed-same (p ∷ ps) = ap (λ (l : List (List ℕ × Expr)). p ∷ l) (keyed-same ps)

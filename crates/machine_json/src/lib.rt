@@ -1,6 +1,7 @@
 //! Machine texts: reads JSON as the definition of a machine, and the expressions in it.
 #![tactic(auto)]
 
+mod actions;
 #[cfg(test)]
 mod expression_tests;
 mod expressions;
@@ -14,6 +15,8 @@ mod kind_word;
 pub mod laws;
 mod machine;
 mod nodes;
+#[cfg(test)]
+mod refused_tests;
 mod role;
 mod role_value;
 mod values;

@@ -24,7 +24,7 @@ use Rattle.machine_json.proofs.expressions.+read_form.Goals.{read_list-in-Ok+in_
 use Rattle.machine_json.proofs.expressions.+read_form.Goals as goal
 
 pub read_form-returns-in_err-parts-in-List : goal.read_form-returns-in_err-parts-in-List
-read_form-returns-in_err-parts-in-List t c = 
+read_form-returns-in_err-parts-in-List t c =
     let kept : c.from_residual-in_err-parts-in-List.result ≡ Err c.in_err-parts-in-List.field-0.0 = search rules in
     let is : form_of c.args.json.now ≡ Some (Expr-F.List c.in-List.items) = ap (λ (j : OrderedJson). form_of j) c.in-List.is ∙ list-form c.in-List.place c.in-List.items in
     subst (λ (r : Result Expr FormFault). IsReading c.args.answered c.args.json.now r) (sym kept)
@@ -70,18 +70,19 @@ read_list-loop-item-preserved t c =
     let more_is : take (c.loop-item.item-index + 1) c.args.items.now ≡ take c.loop-item.item-index c.args.items.now ++ c.item-item.result ∷ [] = take_more c.args.items.now c.loop-item.item-index c.item-item.result c.loop-item-test.true ∙ ap (λ (j : OrderedJson). take c.loop-item.item-index c.args.items.now ++ j ∷ []) (sym c.item-item.is) in
     subst (λ (l : List OrderedJson). SoFar c.args.answered l c.match-read_form.parts.items c.match-read_form.least) (sym more_is)
     (elim c.match-read_form.branch [
-      read_list-in-Ok+in_ok-map_err-in-Ok w ↦
-        (let parts_are : c.match-read_form.parts.items ≡ c.loop-item.parts.items ++ w.in-Ok.part ∷ [] = grind (arith, common_steps) in
-        let least_is : c.match-read_form.least ≡ c.loop-item.least = w.least-is in
-        subst (λ (l : List Expr). SoFar c.args.answered (take c.loop-item.item-index c.args.items.now ++ c.item-item.result ∷ []) l c.match-read_form.least) (sym parts_are)
-        (subst (λ (o : Option ℕ). SoFar c.args.answered (take c.loop-item.item-index c.args.items.now ++ c.item-item.result ∷ []) (c.loop-item.parts.items ++ w.in-Ok.part ∷ []) o) (sym least_is)
-        (so_far-means c.args.answered (take c.loop-item.item-index c.args.items.now) c.loop-item.parts.items c.loop-item.least c.item-item.result w.in-Ok.part c.loop-item.invariant w.in-Ok.ensures)))
-    | read_list-in-Err-Unknown w ↦
-        (let parts_are : c.match-read_form.parts.items ≡ c.loop-item.parts.items = ap (λ (v : Vec Expr Global). v.items) w.parts-is in
-        let least_is : c.match-read_form.least ≡ lesser c.loop-item.least w.in-Err-Unknown.place = w.least-is ∙ w.lesser-least.ensures in
-        subst (λ (l : List Expr). SoFar c.args.answered (take c.loop-item.item-index c.args.items.now ++ c.item-item.result ∷ []) l c.match-read_form.least) (sym parts_are)
-        (subst (λ (o : Option ℕ). SoFar c.args.answered (take c.loop-item.item-index c.args.items.now ++ c.item-item.result ∷ []) c.loop-item.parts.items o) (sym least_is)
-        (so_far-unknown c.args.answered (take c.loop-item.item-index c.args.items.now) c.loop-item.parts.items c.loop-item.least c.item-item.result w.in-Err-Unknown.place c.loop-item.invariant (subst (λ (f : FormFault). IsReading c.args.answered c.item-item.result (Err f)) w.in-Err-Unknown.field-0-is w.in-Err-Unknown.ensures)))) ])
+      | read_list-in-Ok+in_ok-map_err-in-Ok w ↦
+          (let parts_are : c.match-read_form.parts.items ≡ c.loop-item.parts.items ++ w.in-Ok.part ∷ [] = grind (arith, common_steps) in
+          let least_is : c.match-read_form.least ≡ c.loop-item.least = w.least-is in
+          subst (λ (l : List Expr). SoFar c.args.answered (take c.loop-item.item-index c.args.items.now ++ c.item-item.result ∷ []) l c.match-read_form.least) (sym parts_are)
+          (subst (λ (o : Option ℕ). SoFar c.args.answered (take c.loop-item.item-index c.args.items.now ++ c.item-item.result ∷ []) (c.loop-item.parts.items ++ w.in-Ok.part ∷ []) o) (sym least_is)
+          (so_far-means c.args.answered (take c.loop-item.item-index c.args.items.now) c.loop-item.parts.items c.loop-item.least c.item-item.result w.in-Ok.part c.loop-item.invariant w.in-Ok.ensures)))
+      | read_list-in-Err-Unknown w ↦
+          (let parts_are : c.match-read_form.parts.items ≡ c.loop-item.parts.items = ap (λ (v : Vec Expr Global). v.items) w.parts-is in
+          let least_is : c.match-read_form.least ≡ lesser c.loop-item.least w.in-Err-Unknown.place = w.least-is ∙ w.lesser-least.ensures in
+          subst (λ (l : List Expr). SoFar c.args.answered (take c.loop-item.item-index c.args.items.now ++ c.item-item.result ∷ []) l c.match-read_form.least) (sym parts_are)
+          (subst (λ (o : Option ℕ). SoFar c.args.answered (take c.loop-item.item-index c.args.items.now ++ c.item-item.result ∷ []) c.loop-item.parts.items o) (sym least_is)
+          (so_far-unknown c.args.answered (take c.loop-item.item-index c.args.items.now) c.loop-item.parts.items c.loop-item.least c.item-item.result w.in-Err-Unknown.place c.loop-item.invariant (subst (λ (f : FormFault). IsReading c.args.answered c.item-item.result (Err f)) w.in-Err-Unknown.field-0-is w.in-Err-Unknown.ensures))))
+    ])
 
 pub read_list-returns-in-Some-clause-fault : goal.read_list-returns-in-Some-clause-fault
 read_list-returns-in-Some-clause-fault t c =
@@ -99,22 +100,23 @@ read_map-loop-member-init t c = subst (λ (l : List (List ℕ × Expr)). HaveKey
 pub read_map-loop-member-preserved : goal.read_map-loop-member-preserved
 read_map-loop-member-preserved t c =
     let more_is : map member_parts (take (c.loop-member.member-index + 1) c.args.members.now) ≡ map member_parts (take c.loop-member.member-index c.args.members.now) ++ member_parts c.member-item.result ∷ [] =
-        ap (λ (l : List Member). map member_parts l) (take_more c.args.members.now c.loop-member.member-index c.member-item.result c.loop-member-test.true ∙ ap (λ (m : Member). take c.loop-member.member-index c.args.members.now ++ m ∷ []) (sym c.member-item.is))
-        ∙ map-append member_parts (take c.loop-member.member-index c.args.members.now) (c.member-item.result ∷ []) in
+    ap (λ (l : List Member). map member_parts l) (take_more c.args.members.now c.loop-member.member-index c.member-item.result c.loop-member-test.true ∙ ap (λ (m : Member). take c.loop-member.member-index c.args.members.now ++ m ∷ []) (sym c.member-item.is))
+    ∙ map-append member_parts (take c.loop-member.member-index c.args.members.now) (c.member-item.result ∷ []) in
     subst (λ (l : List MemberParts). MapSoFar c.args.answered l c.match-read_form.parts.items c.match-read_form.least) (sym more_is)
     (elim c.match-read_form.branch [
-      read_map-in-Ok+in_ok-copy-in-Ok+in_ok-map_err-in-Ok w ↦
-        (let parts_are : c.match-read_form.parts.items ≡ c.loop-member.parts.items ++ ((member_parts c.member-item.result).key, w.in-Ok.part) ∷ [] = grind (arith, common_steps) in
-        let least_is : c.match-read_form.least ≡ c.loop-member.least = w.least-is in
-        subst (λ (l : List (List ℕ × Expr)). MapSoFar c.args.answered (map member_parts (take c.loop-member.member-index c.args.members.now) ++ member_parts c.member-item.result ∷ []) l c.match-read_form.least) (sym parts_are)
-        (subst (λ (o : Option ℕ). MapSoFar c.args.answered (map member_parts (take c.loop-member.member-index c.args.members.now) ++ member_parts c.member-item.result ∷ []) (c.loop-member.parts.items ++ ((member_parts c.member-item.result).key, w.in-Ok.part) ∷ []) o) (sym least_is)
-        (map_so_far-means c.args.answered (map member_parts (take c.loop-member.member-index c.args.members.now)) c.loop-member.parts.items c.loop-member.least (member_parts c.member-item.result) w.in-Ok.part c.loop-member.invariant w.in-Ok.ensures)))
-    | read_map-in-Err-Unknown w ↦
-        (let parts_are : c.match-read_form.parts.items ≡ c.loop-member.parts.items = ap (λ (v : Vec (List ℕ × Expr) Global). v.items) w.parts-is in
-        let least_is : c.match-read_form.least ≡ lesser c.loop-member.least w.in-Err-Unknown.place = w.least-is ∙ w.lesser-least.ensures ∙ ap (λ (n : ℕ). lesser c.loop-member.least n) w.in-Err-Unknown.place-is in
-        subst (λ (l : List (List ℕ × Expr)). MapSoFar c.args.answered (map member_parts (take c.loop-member.member-index c.args.members.now) ++ member_parts c.member-item.result ∷ []) l c.match-read_form.least) (sym parts_are)
-        (subst (λ (o : Option ℕ). MapSoFar c.args.answered (map member_parts (take c.loop-member.member-index c.args.members.now) ++ member_parts c.member-item.result ∷ []) c.loop-member.parts.items o) (sym least_is)
-        (map_so_far-unknown c.args.answered (map member_parts (take c.loop-member.member-index c.args.members.now)) c.loop-member.parts.items c.loop-member.least (member_parts c.member-item.result) w.in-Err-Unknown.place c.loop-member.invariant (subst (λ (f : FormFault). IsReading c.args.answered (member_parts c.member-item.result).value (Err f)) w.in-Err-Unknown.field-0-is w.in-Err-Unknown.ensures)))) ])
+      | read_map-in-Ok+in_ok-copy-in-Ok+in_ok-map_err-in-Ok w ↦
+          (let parts_are : c.match-read_form.parts.items ≡ c.loop-member.parts.items ++ ((member_parts c.member-item.result).key, w.in-Ok.part) ∷ [] = grind (arith, common_steps) in
+          let least_is : c.match-read_form.least ≡ c.loop-member.least = w.least-is in
+          subst (λ (l : List (List ℕ × Expr)). MapSoFar c.args.answered (map member_parts (take c.loop-member.member-index c.args.members.now) ++ member_parts c.member-item.result ∷ []) l c.match-read_form.least) (sym parts_are)
+          (subst (λ (o : Option ℕ). MapSoFar c.args.answered (map member_parts (take c.loop-member.member-index c.args.members.now) ++ member_parts c.member-item.result ∷ []) (c.loop-member.parts.items ++ ((member_parts c.member-item.result).key, w.in-Ok.part) ∷ []) o) (sym least_is)
+          (map_so_far-means c.args.answered (map member_parts (take c.loop-member.member-index c.args.members.now)) c.loop-member.parts.items c.loop-member.least (member_parts c.member-item.result) w.in-Ok.part c.loop-member.invariant w.in-Ok.ensures)))
+      | read_map-in-Err-Unknown w ↦
+          (let parts_are : c.match-read_form.parts.items ≡ c.loop-member.parts.items = ap (λ (v : Vec (List ℕ × Expr) Global). v.items) w.parts-is in
+          let least_is : c.match-read_form.least ≡ lesser c.loop-member.least w.in-Err-Unknown.place = w.least-is ∙ w.lesser-least.ensures ∙ ap (λ (n : ℕ). lesser c.loop-member.least n) w.in-Err-Unknown.place-is in
+          subst (λ (l : List (List ℕ × Expr)). MapSoFar c.args.answered (map member_parts (take c.loop-member.member-index c.args.members.now) ++ member_parts c.member-item.result ∷ []) l c.match-read_form.least) (sym parts_are)
+          (subst (λ (o : Option ℕ). MapSoFar c.args.answered (map member_parts (take c.loop-member.member-index c.args.members.now) ++ member_parts c.member-item.result ∷ []) c.loop-member.parts.items o) (sym least_is)
+          (map_so_far-unknown c.args.answered (map member_parts (take c.loop-member.member-index c.args.members.now)) c.loop-member.parts.items c.loop-member.least (member_parts c.member-item.result) w.in-Err-Unknown.place c.loop-member.invariant (subst (λ (f : FormFault). IsReading c.args.answered (member_parts c.member-item.result).value (Err f)) w.in-Err-Unknown.field-0-is w.in-Err-Unknown.ensures))))
+    ])
 
 pub read_map-returns-in-Some-clause-fault : goal.read_map-returns-in-Some-clause-fault
 read_map-returns-in-Some-clause-fault t c =

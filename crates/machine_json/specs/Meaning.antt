@@ -1,0 +1,55 @@
+-- What the parts of a machine text mean in which the first pass finds no fault. A part that a text lacks,
+-- and one that such a text doesn't have, means what is said of the absent one.
+use Rattle.std.specs.Prelude.{ℕ, List, [], ◌∷◌, Option, None, Some, codes, map, unwrap_or}
+use Rattle.std.specs.Option.{option_map_or}
+use Rattle.ordered_json.specs.declared.json.OrderedJson.{OrderedJson}
+use Rattle.ordered_json.specs.Words.{MemberParts, as_list, as_object, as_text, get, place_of}
+use Rattle.xs_model.specs.declared.value.Value.{Value}
+use Rattle.xs_model.specs.declared.value.Value.TheVariants as value
+use Rattle.machine_json.specs.declared.machine.Named.{Named}
+use Rattle.machine_json.specs.declared.machine.UnlinkedAction.{UnlinkedAction}
+use Rattle.machine_json.specs.JsonValues.{json_value}
+
+-- the text that a value is
+abbrev pub text_of : OrderedJson → List ℕ
+text_of json = unwrap_or (as_text json) []
+
+-- one value, or the items of a list
+abbrev pub listed : OrderedJson → List OrderedJson
+listed json = unwrap_or (as_list json) (json ∷ [])
+
+-- the texts that one text or a list of them has
+abbrev pub texts_of : OrderedJson → List (List ℕ)
+texts_of json = map text_of (listed json)
+
+-- a name, and where it is used
+abbrev pub named_of : OrderedJson → Named
+named_of json = record { name = text_of json; place = place_of json }
+
+-- the name under a key
+abbrev pub named_under : List ℕ → List MemberParts → Named
+named_under key members = option_map_or named_of (get key members) (record { name = []; place = 0 })
+
+-- the params that an object gives
+abbrev pub params_of : List MemberParts → Value
+params_of members = option_map_or json_value (get (codes "params") members) value.Null
+
+-- the action of an object: its name, and its params
+abbrev pub object_action : List MemberParts → UnlinkedAction
+object_action members = record { action = named_under (codes "type") members; params = params_of members }
+
+-- an action: a name alone, or an object
+abbrev pub action_of : OrderedJson → UnlinkedAction
+action_of json = option_map_or object_action (as_object json) (record { action = named_of json; params = value.Null })
+
+-- the actions that one action or a list of them has
+abbrev pub actions_of : OrderedJson → List UnlinkedAction
+actions_of json = map action_of (listed json)
+
+-- the actions under a key
+abbrev pub actions_under : List ℕ → List MemberParts → List UnlinkedAction
+actions_under key members = option_map_or actions_of (get key members) []
+
+-- the tags of a node
+abbrev pub tags_of : List MemberParts → List (List ℕ)
+tags_of members = option_map_or texts_of (get (codes "tags") members) []
