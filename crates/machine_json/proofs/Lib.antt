@@ -7,4 +7,5 @@ mod NodeLemmas
 mod OwnLemmas
 mod PartLemmas
 mod TestLemmas
+mod UniqueLemmas
 pub mod ValueLemmas

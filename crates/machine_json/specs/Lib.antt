@@ -11,3 +11,5 @@ pub mod Meaning
 pub mod NodeKinds
 pub mod Nodes
 pub mod Roles
+pub mod Rows
+pub mod SecondPass

@@ -1,14 +1,18 @@
 -- What the parts of a machine text mean in which the first pass finds no fault. A part that a text lacks,
 -- and one that such a text doesn't have, means what is said of the absent one.
-use Rattle.std.specs.Prelude.{ℕ, List, [], ◌∷◌, Option, None, Some, codes, map, unwrap_or}
+use Rattle.std.specs.Prelude.{ℕ, List, [], ◌∷◌, ◌++◌, codes, map, pos, unwrap_or, if◌then◌else◌}
 use Rattle.std.specs.Option.{option_map_or}
 use Rattle.ordered_json.specs.declared.json.OrderedJson.{OrderedJson}
-use Rattle.ordered_json.specs.Words.{MemberParts, as_list, as_object, as_text, get, place_of}
+use Rattle.ordered_json.specs.Words.{MemberParts, as_list, as_object, as_text, get, get_object, place_of}
+use Rattle.ordered_json.specs.Meaning.{magnitude}
 use Rattle.xs_model.specs.declared.value.Value.{Value}
 use Rattle.xs_model.specs.declared.value.Value.TheVariants as value
 use Rattle.machine_json.specs.declared.machine.Named.{Named}
 use Rattle.machine_json.specs.declared.machine.UnlinkedAction.{UnlinkedAction}
+use Rattle.machine_json.specs.declared.machine.UnlinkedDelay.{UnlinkedDelay}
+use Rattle.machine_json.specs.declared.machine.UnlinkedDelay.TheVariants.{Milliseconds, Named as a_name}
 use Rattle.machine_json.specs.JsonValues.{json_value}
+use Rattle.machine_json.specs.Keys.{is_number}
 
 -- the text that a value is
 abbrev pub text_of : OrderedJson → List ℕ
@@ -53,3 +57,21 @@ actions_under key members = option_map_or actions_of (get key members) []
 -- the tags of a node
 abbrev pub tags_of : List MemberParts → List (List ℕ)
 tags_of members = option_map_or texts_of (get (codes "tags") members) []
+
+-- ---- delays
+
+-- the number of milliseconds of a key of digits, or the delay's name, used at its key
+abbrev pub delay_of : MemberParts → UnlinkedDelay
+delay_of member =
+    if is_number member.key then Milliseconds (pos (magnitude member.key))
+    else a_name (record { name = member.key; place = member.key_place })
+
+-- the type of the event that comes after a delay of a node
+abbrev pub after_type : List ℕ → List ℕ → List ℕ
+after_type key id = codes "xstate.after." ++ (key ++ codes "." ++ id)
+
+-- the delays of a node with this id
+abbrev pub delays_of : List ℕ → List MemberParts → List (List ℕ × UnlinkedDelay)
+delays_of id members =
+    map (λ (member : MemberParts). (after_type member.key id, delay_of member))
+    (unwrap_or (get_object (codes "after") members) [])

@@ -2,6 +2,7 @@
 #![tactic(auto)]
 
 mod actions;
+mod delays;
 #[cfg(test)]
 mod expression_tests;
 mod expressions;
