@@ -11,6 +11,7 @@ mod field;
 mod fields_check;
 mod first;
 mod first_pass;
+mod invocations;
 mod key;
 mod kind_word;
 pub mod laws;
