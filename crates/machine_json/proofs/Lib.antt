@@ -1,5 +1,6 @@
 pub mod ExpressionLemmas
 mod FirstLemmas
+mod InvocationLemmas
 mod KeyLemmas
 pub mod MeaningLemmas
 pub mod MemberLemmas

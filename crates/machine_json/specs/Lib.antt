@@ -7,6 +7,7 @@ pub mod JsonValues
 pub mod Keys
 pub mod Laws
 pub mod MachineFaults
+pub mod Machines
 pub mod Meaning
 pub mod NodeKinds
 pub mod Nodes

@@ -26,11 +26,7 @@ pub(crate) fn delays_of(
 }
 
 /// The delay that each member is.
-fn each_delay(
-    alloc: Global,
-    id: &str,
-    members: &[Member],
-) -> Result<UnlinkedDelays, AllocError>
+fn each_delay(alloc: Global, id: &str, members: &[Member]) -> Result<UnlinkedDelays, AllocError>
     ensures { IfOk result
         (λ delays. delays ≡ map (λ member. timed_of id.now (member_parts member)) members.now) }
 {
@@ -43,11 +39,7 @@ fn each_delay(
 }
 
 /// A delay with the type of its event.
-fn timed_of(
-    alloc: Global,
-    id: &str,
-    member: &Member,
-) -> Result<(Text, UnlinkedDelay), AllocError>
+fn timed_of(alloc: Global, id: &str, member: &Member) -> Result<(Text, UnlinkedDelay), AllocError>
     ensures { IfOk result (λ timed. timed ≡ timed_of id.now (member_parts member.now)) }
 {
     let event = after_type(alloc, member.key.as_str(), id)?;
