@@ -155,7 +155,7 @@ as_set (Some x) P Q into from first = record {
 }
 
 -- the first of one fault
-single : (x : MachineFault) → TellsFirst (Some x) (λ f. x ≡ f)
+pub single : (x : MachineFault) → TellsFirst (Some x) (λ f. x ≡ f)
 single x = record {
   there = refl;
   no_earlier = λ other is. let same : machine_fault_place x ≡ machine_fault_place other = ap machine_fault_place is in omega arith;

@@ -46,7 +46,7 @@ members-List place items = search (rules, json_lemmas)
 items-Object : (place : ℕ) (members : List Member) → items_of (json.Object place members) ≡ []
 items-Object place members = search (rules, json_lemmas)
 
-members-Object : (place : ℕ) (members : List Member) → members_of (json.Object place members) ≡ map member_parts members
+pub members-Object : (place : ℕ) (members : List Member) → members_of (json.Object place members) ≡ map member_parts members
 members-Object place members = search (rules, json_lemmas)
 
 items-Null : (place : ℕ) → items_of (json.Null place) ≡ []
@@ -91,6 +91,21 @@ scalar_members whole (inl is) = ap members_of is.1 ∙ members-Null is.0
 scalar_members whole (inr (inl is)) = ap members_of is.2 ∙ members-Bool is.0 is.1
 scalar_members whole (inr (inr (inl is))) = ap members_of is.2 ∙ members-Int is.0 is.1
 scalar_members whole (inr (inr (inr is))) = ap members_of is.2 ∙ members-Text is.0 is.1
+
+-- no object
+abbrev pub IsNoObject : OrderedJson → Type 0
+IsNoObject whole =
+    ((place : ℕ) × (whole ≡ json.Null place))
+    ⊎ (((place : ℕ) × (truth : Bool) × (whole ≡ json.Bool place truth))
+    ⊎ (((place : ℕ) × (n : ℤ) × (whole ≡ json.Int place n))
+    ⊎ (((place : ℕ) × (text : List ℕ) × (whole ≡ json.Text place text)) ⊎ ((place : ℕ) × (items : List OrderedJson) × (whole ≡ json.List place items)))))
+
+pub no_members : (whole : OrderedJson) → IsNoObject whole → members_of whole ≡ []
+no_members whole (inl is) = ap members_of is.1 ∙ members-Null is.0
+no_members whole (inr (inl is)) = ap members_of is.2 ∙ members-Bool is.0 is.1
+no_members whole (inr (inr (inl is))) = ap members_of is.2 ∙ members-Int is.0 is.1
+no_members whole (inr (inr (inr (inl is)))) = ap members_of is.2 ∙ members-Text is.0 is.1
+no_members whole (inr (inr (inr (inr is)))) = ap members_of is.2 ∙ members-List is.0 is.1
 
 -- ---- the first fault, from those of the parts
 

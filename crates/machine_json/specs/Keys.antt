@@ -1,5 +1,5 @@
 -- How keys are spelled that may not be any text.
-use Rattle.std.specs.Prelude.{ℕ, Bool, true, false, not, ◌&&◌, ◌||◌, ◌==◌, List, [], ◌∷◌, length, nat_le, nat_lt, slice_index}
+use Rattle.std.specs.Prelude.{ℕ, Bool, true, false, not, ◌&&◌, ◌||◌, ◌==◌, List, [], ◌∷◌, length, nat_le, nat_lt, slice_index, Option, Some, None, if◌then◌else◌}
 use Rattle.std.specs.List.{list_all, list_any}
 use Rattle.ordered_json.specs.Meaning.{magnitude}
 use Rattle.xs_data.specs.Ascii.{digit_nine, digit_zero, full_stop, number_sign}
@@ -21,3 +21,8 @@ is_number key = nat_lt 0 (length key) && list_all is_digit key
 -- a name, or digits that make a delay
 abbrev pub is_delay_key : List ℕ → Bool
 is_delay_key key = not (is_number key) || nat_le (magnitude key) MAX_DELAY
+
+-- the number of milliseconds that a key of digits is, if they make a delay
+abbrev pub milliseconds_of : List ℕ → Option ℕ
+milliseconds_of key =
+    if is_number key && nat_le (magnitude key) MAX_DELAY then Some (magnitude key) else None

@@ -7,5 +7,10 @@ pub mod JsonValues
 pub mod Keys
 pub mod Laws
 pub mod MachineFaults
+pub mod Machines
+pub mod Meaning
 pub mod NodeKinds
+pub mod Nodes
 pub mod Roles
+pub mod Rows
+pub mod SecondPass

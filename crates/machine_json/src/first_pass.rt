@@ -169,7 +169,7 @@ fn node_fault(is_root: bool, json: &OrderedJson) -> Option<MachineFault>
 }
 
 /// The members of an object; of another value none.
-fn members_of(json: &OrderedJson) -> &[Member]
+pub(crate) fn members_of(json: &OrderedJson) -> &[Member]
     ensures { map member_parts result.now ≡ members_of json.now }
 {
     match json.as_object() {

@@ -1,9 +1,9 @@
 //! Keys that may not be any text.
 
-ghost use Rattle.std.specs.Prelude.{◌≡◌, nat_le, true};
+ghost use Rattle.std.specs.Prelude.{◌≡◌, ◌≤◌, IfSome, nat_le, true, if◌then◌else◌};
 ghost use Rattle.std.specs.List.{list_all};
 ghost use Rattle.ordered_json.specs.Meaning.{magnitude};
-ghost use Rattle.machine_json.specs.Keys.{is_delay_key, is_digit, is_number, is_state_key};
+ghost use Rattle.machine_json.specs.Keys.{is_delay_key, is_digit, is_number, is_state_key, milliseconds_of};
 
 use node_tree::{DOT, HASH};
 
@@ -50,12 +50,34 @@ fn fits_a_delay(digits: &[u8]) -> bool
     requires { is_number digits.now ≡ true }
     ensures { result ≡ nat_le (magnitude digits.now) MAX_DELAY }
 {
+    delay_value(digits).is_some()
+}
+
+/// The number of milliseconds that a key of digits is, if they make a delay.
+pub(crate) fn milliseconds(key: &[u8]) -> Option<u64>
+    ensures value { result ≡ milliseconds_of key.now }
+    ensures bound { IfSome result (λ milliseconds. milliseconds ≤ MAX_DELAY) }
+{
+    if is_number(key) {
+        delay_value(key)
+    } else {
+        None
+    }
+}
+
+/// The number that digits spell, if it is a delay.
+fn delay_value(digits: &[u8]) -> Option<u64>
+    requires { is_number digits.now ≡ true }
+    ensures value { result ≡ (if nat_le (magnitude digits.now) MAX_DELAY
+        then Some (magnitude digits.now) else None) }
+    ensures bound { IfSome result (λ delay. delay ≤ MAX_DELAY) }
+{
     let mut delay = 0;
     for digit in digits {
         delay = delay * 10 + u64::from(*digit - b'0');
         if delay > MAX_DELAY {
-            return false;
+            return None;
         }
     }
-    true
+    Some(delay)
 }

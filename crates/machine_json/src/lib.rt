@@ -1,23 +1,31 @@
 //! Machine texts: reads JSON as the definition of a machine, and the expressions in it.
 #![tactic(auto)]
 
+mod actions;
+mod delays;
 #[cfg(test)]
 mod expression_tests;
 mod expressions;
 mod fault;
 mod field;
+mod fields_check;
 mod first;
 mod first_pass;
+mod invocations;
 mod key;
 mod kind_word;
 pub mod laws;
 mod machine;
+mod nodes;
+#[cfg(test)]
+mod refused_tests;
 mod role;
 mod role_value;
 mod values;
 
 pub use expressions::{FormFault, FormPlace, Operator, read_expr, read_form};
 pub use fault::MachineFault;
+pub use fields_check::check_fields;
 pub use key::MAX_DELAY;
 pub use kind_word::NodeKind;
 pub use machine::{
@@ -25,4 +33,5 @@ pub use machine::{
     UnlinkedGuard, UnlinkedGuards, UnlinkedInvocation, UnlinkedInvocations, UnlinkedNode,
     UnlinkedNodes, UnlinkedTransition, UnlinkedTransitions,
 };
+pub use nodes::MAX_NODES;
 pub use values::json_value;

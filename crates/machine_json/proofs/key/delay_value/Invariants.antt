@@ -1,7 +1,7 @@
 use Rattle.std.proofs.Common.{◌≡◌, ◌≤◌, take}
 use Rattle.ordered_json.specs.Meaning.{magnitude}
 use Rattle.machine_json.specs.declared.key.TheConstants.{MAX_DELAY}
-use Rattle.machine_json.proofs.key.fits_a_delay.Given as goal
+use Rattle.machine_json.proofs.key.delay_value.Given as goal
 
 abbrev pub invariant-loop-digit : goal.invariant-loop-digit
 invariant-loop-digit l = record {
