@@ -12,13 +12,13 @@ use Rattle.std.specs.Result.{result_err}
 use Rattle.xs_model.specs.declared.expr.Expr.{Expr}
 use Rattle.machine_json.specs.declared.expressions.FormFault.{FormFault}
 use Rattle.machine_json.specs.declared.expressions.FormFault.TheVariants.{Unknown, Memory}
-use Rattle.machine_json.specs.Expressions.{HasUnknownForm, IsReading}
+use Rattle.machine_json.specs.Expressions.{HasUnknownForm, IsExpressionReading}
 use Rattle.machine_json.specs.FirstFaults.{IsLeastPlace}
 use Rattle.machine_json.proofs.ExpressionLemmas.{least_left, least_min, least_right, meaning_excludes}
 use Rattle.action_table.specs.declared.role.Shape.{Shape}
 use Rattle.action_table.specs.declared.role.TableRole.{TableRole}
 use Rattle.action_table.specs.declared.role.TableRole.TheVariants as role
-use Rattle.action_table.specs.Shapes.{has_members, has_needed, is_complete, is_relative, item_role, list_role, items_in, key_role, members_in, shape_of, shapes, takes}
+use Rattle.action_table.specs.Shapes.{has_members, has_needed, is_complete, is_relative, table_item_role, list_role, items_in, key_role, members_in, shape_of, shapes, takes}
 use Rattle.action_table.specs.TablePlaces.{HasItemFault, HasMemberFault, HasTableFault, IsLeastOf, at_key, in_first, in_items, in_later, in_members, in_rest, in_value, itself, least_of, own_fault, unknown}
 
 -- the least of two kinds of places
@@ -127,7 +127,7 @@ abbrev Parted : TableRole → OrderedJson → ℕ → Type 0
 Parted where_it_stands json place =
     (own_fault where_it_stands json ≡ Some place)
     ⊎ (HasMemberFault where_it_stands (shape_of where_it_stands (members_in where_it_stands json)) (members_in where_it_stands json) place
-    ⊎ HasItemFault (item_role where_it_stands) (items_in where_it_stands json) place)
+    ⊎ HasItemFault (table_item_role where_it_stands) (items_in where_it_stands json) place)
 
 -- whether expressions stand there
 abbrev pub is_expression : TableRole → Bool
@@ -140,7 +140,7 @@ parted _ json place plain (unknown _ _ has) = absurd (cc plain)
 parted where_it_stands json place plain (in_members _ _ _ has) = inr (inl has)
 parted where_it_stands json place plain (in_items _ _ _ has) = inr (inr has)
 
-from_parts : (where_it_stands : TableRole) (json : OrderedJson) (place : ℕ) → HasMemberFault where_it_stands (shape_of where_it_stands (members_in where_it_stands json)) (members_in where_it_stands json) place ⊎ HasItemFault (item_role where_it_stands) (items_in where_it_stands json) place → HasTableFault where_it_stands json place
+from_parts : (where_it_stands : TableRole) (json : OrderedJson) (place : ℕ) → HasMemberFault where_it_stands (shape_of where_it_stands (members_in where_it_stands json)) (members_in where_it_stands json) place ⊎ HasItemFault (table_item_role where_it_stands) (items_in where_it_stands json) place → HasTableFault where_it_stands json place
 from_parts where_it_stands json place (inl has) = in_members where_it_stands json place has
 from_parts where_it_stands json place (inr has) = in_items where_it_stands json place has
 
@@ -153,11 +153,11 @@ own_least (Some p) = record { there = refl; no_earlier = λ other is. omega (ari
 
 pub value-least : (where_it_stands : TableRole) (json : OrderedJson) (members items : Option ℕ) → is_expression where_it_stands ≡ false
     → IsLeastOf (HasMemberFault where_it_stands (shape_of where_it_stands (members_in where_it_stands json)) (members_in where_it_stands json)) members
-    → IsLeastOf (HasItemFault (item_role where_it_stands) (items_in where_it_stands json)) items
+    → IsLeastOf (HasItemFault (table_item_role where_it_stands) (items_in where_it_stands json)) items
     → IsLeastOf (HasTableFault where_it_stands json) (least_of (own_fault where_it_stands json) (least_of members items))
 value-least where_it_stands json members items plain in_the_members in_the_items =
     let M : ℕ → Type 0 = HasMemberFault where_it_stands (shape_of where_it_stands (members_in where_it_stands json)) (members_in where_it_stands json) in
-    let I : ℕ → Type 0 = HasItemFault (item_role where_it_stands) (items_in where_it_stands json) in
+    let I : ℕ → Type 0 = HasItemFault (table_item_role where_it_stands) (items_in where_it_stands json) in
     least-of (λ (p : ℕ). own_fault where_it_stands json ≡ Some p) (λ (p : ℕ). M p ⊎ I p) (HasTableFault where_it_stands json) (own_fault where_it_stands json) (least_of members items)
     (own_least (own_fault where_it_stands json))
     (least-of M I (λ (p : ℕ). M p ⊎ I p) members items in_the_members in_the_items (λ n has. inl has) (λ n has. inr has) (λ n has. has))
@@ -247,14 +247,14 @@ plain-items role.Nothing json is = refl
 pub parts-least : (where_it_stands : TableRole) (json : OrderedJson) (members : List MemberParts) (items : List OrderedJson) (in_the_members in_the_items found : Option ℕ) → is_expression where_it_stands ≡ false
     → members_in where_it_stands json ≡ members → items_in where_it_stands json ≡ items
     → IsLeastOf (HasMemberFault where_it_stands (shape_of where_it_stands members) members) in_the_members
-    → IsLeastOf (HasItemFault (item_role where_it_stands) items) in_the_items
+    → IsLeastOf (HasItemFault (table_item_role where_it_stands) items) in_the_items
     → least_of (own_fault where_it_stands json) (least_of in_the_members in_the_items) ≡ found
     → IsLeastOf (HasTableFault where_it_stands json) found
 parts-least where_it_stands json members items in_the_members in_the_items found plain members_are items_are members_least items_least is =
     subst (λ (o : Option ℕ). IsLeastOf (HasTableFault where_it_stands json) o) is
     (value-least where_it_stands json in_the_members in_the_items plain
     (subst (λ (ms : List MemberParts). IsLeastOf (HasMemberFault where_it_stands (shape_of where_it_stands ms) ms) in_the_members) (sym members_are) members_least)
-    (subst (λ (js : List OrderedJson). IsLeastOf (HasItemFault (item_role where_it_stands) js) in_the_items) (sym items_are) items_least))
+    (subst (λ (js : List OrderedJson). IsLeastOf (HasItemFault (table_item_role where_it_stands) js) in_the_items) (sym items_are) items_least))
 
 -- an expression has the faults of its unknown forms
 no_shape : (members : List MemberParts) → shape_of role.Expression members ≡ None
@@ -285,11 +285,11 @@ same_place : (p q : ℕ) → Some (Unknown p) ≡ Some (Unknown q) → p ≡ q
 same_place p q is = cc
 
 -- an expression that is read has no unknown form, and one that is refused has the least one
-pub read-none : (json : OrderedJson) (read : Result Expr FormFault) → IsReading AtOperator json read → result_err read ≡ None → IsLeastOf (HasUnknownForm AtOperator json) None
+pub read-none : (json : OrderedJson) (read : Result Expr FormFault) → IsExpressionReading AtOperator json read → result_err read ≡ None → IsLeastOf (HasUnknownForm AtOperator json) None
 read-none json (Ok e) it is = λ place has. meaning_excludes AtOperator json e place it has
 read-none json (Err fault) it is = absurd (cc is)
 
-pub read-unknown : (json : OrderedJson) (read : Result Expr FormFault) (place : ℕ) → IsReading AtOperator json read → result_err read ≡ Some (Unknown place) → IsLeastOf (HasUnknownForm AtOperator json) (Some place)
+pub read-unknown : (json : OrderedJson) (read : Result Expr FormFault) (place : ℕ) → IsExpressionReading AtOperator json read → result_err read ≡ Some (Unknown place) → IsLeastOf (HasUnknownForm AtOperator json) (Some place)
 read-unknown json (Ok e) place it is = absurd (cc is)
 read-unknown json (Err (Unknown p)) place least is = subst (λ (n : ℕ). IsLeastPlace (HasUnknownForm AtOperator json) n) (same_place p place is) least
 read-unknown json (Err Memory) place it is = absurd (cc is)
@@ -327,7 +327,7 @@ not-expression role.Nothing h = refl
 pub refused-least : (where_it_stands : TableRole) (json : OrderedJson) → is_expression where_it_stands ≡ false → takes where_it_stands json ≡ false → IsLeastOf (HasTableFault where_it_stands json) (Some (place_of json))
 refused-least where_it_stands json plain refused =
     parts-least where_it_stands json [] [] None None (Some (place_of json)) plain (refused-members where_it_stands json refused) (refused-items where_it_stands json refused)
-    (members-none where_it_stands (shape_of where_it_stands [])) (items-none (item_role where_it_stands))
+    (members-none where_it_stands (shape_of where_it_stands [])) (items-none (table_item_role where_it_stands))
     (ap (λ (o : Option ℕ). least_of o None) (own-refused where_it_stands json refused))
 
 -- an object that may stand there has its members looked at
@@ -364,7 +364,7 @@ object-least where_it_stands place members own inner found plain taken own_is in
     let place_is : place_of (json.Object place members) ≡ place = search (rules, json_lemmas) in
     parts-least where_it_stands (json.Object place members) (map member_parts members) [] inner None found plain
     (taken-members where_it_stands (json.Object place members) (map member_parts members) plain taken object_is no_list no_text)
-    (plain-items where_it_stands (json.Object place members) no_list) inner_least (items-none (item_role where_it_stands))
+    (plain-items where_it_stands (json.Object place members) no_list) inner_least (items-none (table_item_role where_it_stands))
     (none-least (own_fault where_it_stands (json.Object place members)) inner
     ∙ ap (λ (o : Option ℕ). least_of o inner) (own-object where_it_stands (json.Object place members) (map member_parts members) object_is taken
     ∙ ap (λ (n : ℕ). if is_complete where_it_stands (map member_parts members) then None else Some n) place_is ∙ sym own_is) ∙ sym is)
@@ -382,7 +382,7 @@ list-least where_it_stands part place items found plain taken part_is least =
 pub scalar-least : (where_it_stands : TableRole) (json : OrderedJson) → is_expression where_it_stands ≡ false → takes where_it_stands json ≡ true → as_object json ≡ None → as_list json ≡ None → IsLeastOf (HasTableFault where_it_stands json) None
 scalar-least where_it_stands json plain taken no_object no_list =
     parts-least where_it_stands json [] [] None None None plain (plain-members where_it_stands json no_object) (plain-items where_it_stands json no_list)
-    (members-none where_it_stands (shape_of where_it_stands [])) (items-none (item_role where_it_stands))
+    (members-none where_it_stands (shape_of where_it_stands [])) (items-none (table_item_role where_it_stands))
     (ap (λ (o : Option ℕ). least_of o None) (own-none where_it_stands json no_object taken))
 
 pub no_list-least : (where_it_stands : TableRole) (place : ℕ) (items : List OrderedJson) → is_expression where_it_stands ≡ false → takes where_it_stands (json.List place items) ≡ true → list_role where_it_stands ≡ None → IsLeastOf (HasTableFault where_it_stands (json.List place items)) None
@@ -390,7 +390,7 @@ no_list-least where_it_stands place items plain taken none_is =
     let no_object : as_object (json.List place items) ≡ None = search (rules, json_lemmas) in
     parts-least where_it_stands (json.List place items) [] [] None None None plain (plain-members where_it_stands (json.List place items) no_object)
     (ap (λ (o : Option TableRole). option_map_or (λ (p : TableRole). unwrap_or (as_list (json.List place items)) []) o []) none_is)
-    (members-none where_it_stands (shape_of where_it_stands [])) (items-none (item_role where_it_stands))
+    (members-none where_it_stands (shape_of where_it_stands [])) (items-none (table_item_role where_it_stands))
     (ap (λ (o : Option ℕ). least_of o None) (own-none where_it_stands (json.List place items) no_object taken))
 
 -- a fact of what a call gave, where it follows from another

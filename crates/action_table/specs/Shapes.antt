@@ -149,5 +149,5 @@ abbrev pub items_in : TableRole → OrderedJson → List OrderedJson
 items_in where_it_stands json = option_map_or (λ part. unwrap_or (as_list json) []) (list_role where_it_stands) []
 
 -- what such an item is there for
-abbrev pub item_role : TableRole → TableRole
-item_role where_it_stands = unwrap_or (list_role where_it_stands) where_it_stands
+abbrev pub table_item_role : TableRole → TableRole
+table_item_role where_it_stands = unwrap_or (list_role where_it_stands) where_it_stands

@@ -9,7 +9,7 @@ use Rattle.machine_json.specs.FirstFaults.{IsLeastPlace}
 use Rattle.action_table.specs.declared.role.Shape.{Shape}
 use Rattle.action_table.specs.declared.role.TableRole.{TableRole}
 use Rattle.action_table.specs.declared.role.TableRole.TheVariants as role
-use Rattle.action_table.specs.Shapes.{is_complete, item_role, items_in, key_role, members_in, shape_of, takes}
+use Rattle.action_table.specs.Shapes.{is_complete, table_item_role, items_in, key_role, members_in, shape_of, takes}
 
 -- a value that may not stand there, or an object that is empty or lacks a part, at itself
 abbrev pub own_fault : TableRole → OrderedJson → Option ℕ
@@ -28,7 +28,7 @@ mutual
         → HasMemberFault where_it_stands (shape_of where_it_stands (members_in where_it_stands json)) (members_in where_it_stands json) place
         → HasTableFault where_it_stands json place
     in_items : (where_it_stands : TableRole) (json : OrderedJson) (place : ℕ)
-        → HasItemFault (item_role where_it_stands) (items_in where_it_stands json) place
+        → HasItemFault (table_item_role where_it_stands) (items_in where_it_stands json) place
         → HasTableFault where_it_stands json place
 
   -- a member of an object of this form has a fault: at a key that the object doesn't have, or in its value

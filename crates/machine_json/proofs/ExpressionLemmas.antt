@@ -17,7 +17,7 @@ use Rattle.machine_json.specs.declared.expressions.FormPlace.{FormPlace}
 use Rattle.machine_json.specs.declared.expressions.FormFault.{FormFault}
 use Rattle.machine_json.specs.declared.expressions.FormFault.TheVariants.{Unknown, Memory}
 use Rattle.machine_json.specs.declared.expressions.Operator.{Operator}
-use Rattle.machine_json.specs.Expressions.{EachMeans, HasUnknownAmong, HasUnknownForm, IsReading, MeansExpr, member_form, object_form, object_place, operator_form, operator_of, over_three, over_two, first, form_of, form_place, itself, later, means, more, none, operands, outline_of, within}
+use Rattle.machine_json.specs.Expressions.{EachMeans, HasUnknownAmong, HasUnknownForm, IsExpressionReading, MeansExpr, member_form, object_form, object_place, operator_form, operator_of, over_three, over_two, first, form_of, form_place, itself, later, means, more, none, operands, outline_of, within}
 use Rattle.machine_json.specs.ExpressionParts.{IsEachReading, IsFirstUnknown, IsFormReading, IsListReading, IsPathReading, IsTwoReading, IsThreeReading, MeansForm, if_three, if_two, joined, lesser, made_of, one_listed, three_listed, two_listed, values_under, HaveKeysAndMean}
 use Rattle.machine_json.specs.FirstFaults.{IsLeastPlace}
 
@@ -131,7 +131,7 @@ first_or_later : (answered : FormPlace) (json : OrderedJson) (jsons : List Order
 first_or_later answered json jsons place (first _ _ _ _ has) = inl has
 first_or_later answered json jsons place (later _ _ _ _ has) = inr has
 
-pub each-joined : {X : Type 0} (answered : FormPlace) (json : OrderedJson) (jsons : List OrderedJson) (listed : X → List Expr) (one : Result Expr FormFault) (others : Result X FormFault) → IsReading answered json one → IsEachReading answered jsons (made_of listed others) → IsEachReading answered (json ∷ jsons) (made_of (λ (p : Expr × X). p.0 ∷ listed p.1) (joined one others))
+pub each-joined : {X : Type 0} (answered : FormPlace) (json : OrderedJson) (jsons : List OrderedJson) (listed : X → List Expr) (one : Result Expr FormFault) (others : Result X FormFault) → IsExpressionReading answered json one → IsEachReading answered jsons (made_of listed others) → IsEachReading answered (json ∷ jsons) (made_of (λ (p : Expr × X). p.0 ∷ listed p.1) (joined one others))
 each-joined answered json jsons listed (Ok expr) (Ok x) it each = more json expr jsons (listed x) it each
 each-joined answered json jsons listed (Ok expr) (Err Memory) it each = tt
 each-joined answered json jsons listed (Ok expr) (Err (Unknown q)) it least =
@@ -147,7 +147,7 @@ each-joined answered json jsons listed (Err (Unknown p)) (Err (Unknown q)) it le
     least_min (HasUnknownForm answered json) (HasUnknownAmong answered jsons) (HasUnknownAmong answered (json ∷ jsons)) p q it least
     (λ n has. first answered json jsons n has) (λ n has. later answered json jsons n has) (λ n has. first_or_later answered json jsons n has)
 
-pub each-one : (answered : FormPlace) (json : OrderedJson) (one : Result Expr FormFault) → IsReading answered json one → IsEachReading answered (json ∷ []) (made_of one_listed one)
+pub each-one : (answered : FormPlace) (json : OrderedJson) (one : Result Expr FormFault) → IsExpressionReading answered json one → IsEachReading answered (json ∷ []) (made_of one_listed one)
 each-one answered json (Ok expr) it = more json expr [] [] it none
 each-one answered json (Err Memory) it = tt
 each-one answered json (Err (Unknown place)) least =
@@ -166,7 +166,7 @@ among_operands answered json form place other is least (within _ _ form' _ form_
     least.no_earlier other (subst (λ (f : Expr-F OrderedJson). HasUnknownAmong answered (operands f) other) (same_form json form form' is form_is) has)
 
 -- what reading the form of JSON answers is what reading the JSON answers
-pub reading-from_form : (answered : FormPlace) (json : OrderedJson) (result : Result Expr FormFault) (form : Option (Expr-F OrderedJson)) → form_of json ≡ form → IsFormReading answered (form_place answered json) form result → IsReading answered json result
+pub reading-from_form : (answered : FormPlace) (json : OrderedJson) (result : Result Expr FormFault) (form : Option (Expr-F OrderedJson)) → form_of json ≡ form → IsFormReading answered (form_place answered json) form result → IsExpressionReading answered json result
 reading-from_form answered json (Ok expr) None is h = absurd h
 reading-from_form answered json (Ok expr) (Some form) is h = means json expr form is h.outline h.each
 reading-from_form answered json (Err Memory) form is h = tt
@@ -187,7 +187,7 @@ form-means form expr layer is outline each = record {
 }
 
 -- an operator over one operand
-pub unary-reading : (answered : FormPlace) (unknown : ℕ) (op : Unary) (json : OrderedJson) (one : Result Expr FormFault) → IsReading answered json one → IsFormReading answered unknown (Some (Expr-F.Unary op json)) (made_of (expr.Unary op) one)
+pub unary-reading : (answered : FormPlace) (unknown : ℕ) (op : Unary) (json : OrderedJson) (one : Result Expr FormFault) → IsExpressionReading answered json one → IsFormReading answered unknown (Some (Expr-F.Unary op json)) (made_of (expr.Unary op) one)
 unary-reading answered unknown op json (Ok e) it = form-means (Expr-F.Unary op json) (expr.Unary op e) (Expr-F.Unary op e) (search (rules, the_lemmas)) refl (more json e [] [] it none)
 unary-reading answered unknown op json (Err Memory) it = tt
 unary-reading answered unknown op json (Err (Unknown place)) it = each-one answered json (Err (Unknown place)) it
@@ -294,13 +294,13 @@ pub member-reading : (answered : FormPlace) (unknown : ℕ) (member : MemberPart
 member-reading answered unknown member op result is h = subst (λ (o : Option Operator). IsFormReading answered unknown (option_and_then (operator_form member.value) o) result) (sym is) h
 
 -- two and three operands in a list
-pub two-joined : (answered : FormPlace) (unknown : ℕ) (under : Option (List OrderedJson)) (a b : OrderedJson) (first_one second_one : Result Expr FormFault) (result : Result (Expr × Expr) FormFault) → under ≡ Some (a ∷ b ∷ []) → result ≡ joined first_one second_one → IsReading answered a first_one → IsReading answered b second_one → IsTwoReading answered unknown under result
+pub two-joined : (answered : FormPlace) (unknown : ℕ) (under : Option (List OrderedJson)) (a b : OrderedJson) (first_one second_one : Result Expr FormFault) (result : Result (Expr × Expr) FormFault) → under ≡ Some (a ∷ b ∷ []) → result ≡ joined first_one second_one → IsExpressionReading answered a first_one → IsExpressionReading answered b second_one → IsTwoReading answered unknown under result
 two-joined answered unknown under a b first_one second_one result under_is is a_read b_read =
     subst (λ (u : Option (List OrderedJson)). IsTwoReading answered unknown u result) (sym under_is)
     (subst (λ (r : Result (Expr × Expr) FormFault). IsTwoReading answered unknown (Some (a ∷ b ∷ [])) r) (sym is)
     (each-joined answered a (b ∷ []) one_listed first_one second_one a_read (each-one answered b second_one b_read)))
 
-pub three-joined : (answered : FormPlace) (unknown : ℕ) (under : Option (List OrderedJson)) (a b c : OrderedJson) (first_one second_one third_one : Result Expr FormFault) (result : Result (Expr × (Expr × Expr)) FormFault) → under ≡ Some (a ∷ b ∷ c ∷ []) → result ≡ joined first_one (joined second_one third_one) → IsReading answered a first_one → IsReading answered b second_one → IsReading answered c third_one → IsThreeReading answered unknown under result
+pub three-joined : (answered : FormPlace) (unknown : ℕ) (under : Option (List OrderedJson)) (a b c : OrderedJson) (first_one second_one third_one : Result Expr FormFault) (result : Result (Expr × (Expr × Expr)) FormFault) → under ≡ Some (a ∷ b ∷ c ∷ []) → result ≡ joined first_one (joined second_one third_one) → IsExpressionReading answered a first_one → IsExpressionReading answered b second_one → IsExpressionReading answered c third_one → IsThreeReading answered unknown under result
 three-joined answered unknown under a b c first_one second_one third_one result under_is is a_read b_read c_read =
     subst (λ (u : Option (List OrderedJson)). IsThreeReading answered unknown u result) (sym under_is)
     (subst (λ (r : Result (Expr × (Expr × Expr)) FormFault). IsThreeReading answered unknown (Some (a ∷ b ∷ c ∷ [])) r) (sym is)

@@ -8,7 +8,7 @@ use Rattle.ordered_json.specs.Words.{key_of}
 use Rattle.xs_model.specs.declared.value.Value.{Value}
 use Rattle.xs_model.specs.declared.value.Value.TheVariants as value
 use Rattle.xs_model.specs.Rising.{put}
-use Rattle.machine_json.specs.JsonValues.{json_value, layer_value, map_of, member_value}
+use Rattle.machine_json.specs.JsonValues.{json_value, layer_value, members_value, member_value}
 
 -- a member of an object, as its key and its value
 abbrev pub json_member : Member → List ℕ × Value
@@ -39,5 +39,5 @@ same_members (m ∷ members) =
     ap (λ (x : List ℕ × Value). x ∷ map (fold-Member Value (List ℕ × Value) layer_value member_value) members) (fold_out-Member Value (List ℕ × Value) layer_value member_value m)
     ∙ ap (λ xs. json_member m ∷ xs) (same_members members)
 
-pub json-Object : (place : ℕ) (members : List Member) → json_value (json.Object place members) ≡ map_of (map json_member members)
+pub json-Object : (place : ℕ) (members : List Member) → json_value (json.Object place members) ≡ members_value (map json_member members)
 json-Object place members = search (rules, json_lemmas, same_members)

@@ -216,10 +216,10 @@ mutual
 
 -- what reading JSON as an expression answers: what it means, or the least place of its unknown forms;
 -- memory may run out
-abbrev pub IsReading : FormPlace → OrderedJson → Result Expr FormFault → Type 0
-IsReading answered json (Ok expr) = MeansExpr json expr
-IsReading answered json (Err (Unknown place)) = IsLeastPlace (HasUnknownForm answered json) place
-IsReading answered json (Err Memory) = Unit {0}
+abbrev pub IsExpressionReading : FormPlace → OrderedJson → Result Expr FormFault → Type 0
+IsExpressionReading answered json (Ok expr) = MeansExpr json expr
+IsExpressionReading answered json (Err (Unknown place)) = IsLeastPlace (HasUnknownForm answered json) place
+IsExpressionReading answered json (Err Memory) = Unit {0}
 
 -- the same of `read_expr`: an unknown form is BadKind at its object
 abbrev pub IsExprReading : OrderedJson → Result Expr MachineFault → Type 0

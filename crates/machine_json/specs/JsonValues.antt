@@ -11,8 +11,8 @@ abbrev pub member_value : Member-F Value (List ℕ × Value) → List ℕ × Val
 member_value member = (member.key, member.value)
 
 -- members by their keys
-abbrev pub map_of : List (List ℕ × Value) → Value
-map_of members = value.Map (fold (λ (sorted : List (List ℕ × Value)) (member : List ℕ × Value). put sorted member.0 member.1) [] members)
+abbrev pub members_value : List (List ℕ × Value) → Value
+members_value members = value.Map (fold (λ (sorted : List (List ℕ × Value)) (member : List ℕ × Value). put sorted member.0 member.1) [] members)
 
 -- one layer of JSON, without its place
 abbrev pub layer_value : OrderedJson-F Value (List ℕ × Value) → Value
@@ -21,7 +21,7 @@ layer_value (OrderedJson-F.Bool place truth) = value.Bool truth
 layer_value (OrderedJson-F.Int place number) = value.Int number
 layer_value (OrderedJson-F.Text place text) = value.Text text
 layer_value (OrderedJson-F.List place items) = value.List items
-layer_value (OrderedJson-F.Object place members) = map_of members
+layer_value (OrderedJson-F.Object place members) = members_value members
 
 -- JSON as a value: without places, the members of objects by their keys
 abbrev pub json_value : OrderedJson → Value

@@ -15,7 +15,7 @@ use Rattle.machine_json.specs.declared.machine.UnlinkedGuard.TheVariants as guar
 use Rattle.machine_json.specs.declared.machine.UnlinkedNode.{UnlinkedNode}
 use Rattle.machine_json.specs.declared.machine.UnlinkedTransition.{UnlinkedTransition}
 use Rattle.machine_json.specs.FirstPass.{items_of}
-use Rattle.machine_json.specs.Meaning.{AreInvocations, MeansExprOr, actions_under, after_type, child_id, delays_of, invocation_texts, listed, named_of, params_of, tags_of}
+use Rattle.machine_json.specs.Meaning.{AreInvocations, MeansExprOr, actions_under, after_type, invoked_id, delays_of, invocation_texts, listed, named_of, params_of, tags_of}
 use Rattle.machine_json.specs.NodeKinds.{members_of}
 use Rattle.machine_json.specs.Nodes.{AreNodes, HasFirstPassFault, NodeParts}
 use Rattle.machine_json.specs.Roles.{is_text}
@@ -102,7 +102,7 @@ under_key descriptor key members = option_map_or (under descriptor) (get key mem
 abbrev pub of_invocation : List ℕ → ℕ × OrderedJson → List (List ℕ × OrderedJson)
 of_invocation node p =
     let members = members_of p.1 in
-    let id = child_id node p.0 members in
+    let id = invoked_id node p.0 members in
     under_key (codes "xstate.done.actor." ++ id) (codes "onDone") members
     ++ under_key (codes "xstate.error.actor." ++ id) (codes "onError") members
     ++ under_key (codes "xstate.snapshot." ++ id) (codes "onSnapshot") members

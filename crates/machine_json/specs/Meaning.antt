@@ -93,12 +93,12 @@ MeansExprOr absent (Some json) expr = MeansExpr json expr
 
 -- the id of the child of an invocation: the one that the text gives, or the place of the invocation and the id of
 -- the node
-abbrev pub child_id : List ℕ → ℕ → List MemberParts → List ℕ
-child_id id place members = option_map_or text_of (get (codes "id") members) (decimal place ++ codes "." ++ id)
+abbrev pub invoked_id : List ℕ → ℕ → List MemberParts → List ℕ
+invoked_id id place members = option_map_or text_of (get (codes "id") members) (decimal place ++ codes "." ++ id)
 
 -- the invocation at a place among those of the node with this id
 pub record MeansInvocation (node : List ℕ) (place : ℕ) (members : List MemberParts) (invocation : UnlinkedInvocation) : Type 0 where
-  pub id : invocation.id ≡ child_id node place members
+  pub id : invocation.id ≡ invoked_id node place members
   pub src : invocation.src ≡ named_under (codes "src") members
   pub input : MeansExprOr expression.Null (get (codes "input") members) invocation.input
   pub system : invocation.system ≡ option_map text_of (get (codes "systemId") members)

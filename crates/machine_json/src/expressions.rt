@@ -5,7 +5,7 @@ ghost use Rattle.std.specs.Option.{option_copied};
 ghost use Rattle.ordered_json.specs.Words.{member_parts, key_of, as_list, as_text};
 ghost use Rattle.std.specs.Str.{bytes_eq};
 ghost use Rattle.std.specs.Map.{lookup};
-ghost use Rattle.machine_json.specs.Expressions.{begins_with_dollar, binary_operators, operator_of, other_operators, path_operators, object_form, member_form, object_place, place_at, EachMeans, IsReading, IsExprReading};
+ghost use Rattle.machine_json.specs.Expressions.{begins_with_dollar, binary_operators, operator_of, other_operators, path_operators, object_form, member_form, object_place, place_at, EachMeans, IsExpressionReading, IsExprReading};
 ghost use Rattle.machine_json.specs.ExpressionParts.{values_under, joined, lesser, HaveKeysAndMean, IsFirstUnknown, IsFormReading, IsPathReading, IsTwoReading, IsThreeReading};
 
 use crate::fault::MachineFault;
@@ -82,7 +82,7 @@ pub fn read_expr(alloc: Global, text: &OrderedJson) -> Result<Expr, MachineFault
 /// unknown form, so that the least place is found. The cost is that of a copy.
 #[cycle(read_form)]
 pub fn read_form(alloc: Global, json: &OrderedJson, answered: FormPlace) -> Result<Expr, FormFault>
-    ensures { IsReading answered json.now result }
+    ensures { IsExpressionReading answered json.now result }
 {
     match json {
         OrderedJson::Null { .. } => Ok(Expr::Null),
@@ -237,7 +237,7 @@ fn read_operand(
     json: &OrderedJson,
     answered: FormPlace,
 ) -> Result<Boxed<Expr>, FormFault>
-    ensures { IsReading answered json.now result }
+    ensures { IsExpressionReading answered json.now result }
 {
     Ok(Boxed::new(alloc, read_form(alloc, json, answered)?)?)
 }

@@ -3,7 +3,7 @@
 ghost use Rattle.std.specs.Prelude.{◌≡◌, IfOk, Some, map, option_map};
 ghost use Rattle.ordered_json.specs.Words.{get, member_parts};
 ghost use Rattle.xs_model.specs.declared.expr.Expr.TheVariants as expression;
-ghost use Rattle.machine_json.specs.Meaning.{AreInvocations, MeansExprOr, MeansInvocation, child_id, text_of};
+ghost use Rattle.machine_json.specs.Meaning.{AreInvocations, MeansExprOr, MeansInvocation, invoked_id, text_of};
 
 use crate::actions::{named_under, text_of};
 use crate::expressions::read_expr;
@@ -63,7 +63,7 @@ pub(crate) fn invocation(
         (λ invocation. MeansInvocation node.now place (map member_parts members.now) invocation) }
 {
     Ok(UnlinkedInvocation {
-        id: child_id(alloc, node, place, members)?,
+        id: invoked_id(alloc, node, place, members)?,
         src: named_under(alloc, "src", members)?,
         input: expr_under(alloc, "input", members)?,
         system: text_under(alloc, "systemId", members)?,
@@ -72,8 +72,13 @@ pub(crate) fn invocation(
 }
 
 /// The id of the child of an invocation.
-fn child_id(alloc: Global, node: &str, place: usize, members: &[Member]) -> Result<Text, AllocError>
-    ensures { IfOk result (λ id. id ≡ child_id node.now place (map member_parts members.now)) }
+fn invoked_id(
+    alloc: Global,
+    node: &str,
+    place: usize,
+    members: &[Member],
+) -> Result<Text, AllocError>
+    ensures { IfOk result (λ id. id ≡ invoked_id node.now place (map member_parts members.now)) }
 {
     match get(members, "id") {
         Some(json) => text_of(alloc, json),

@@ -10,7 +10,7 @@ use Rattle.ordered_json.specs.Words.{MemberParts, as_list, as_text, key_of, memb
 use Rattle.xs_model.specs.declared.expr.Expr.{Expr}
 use Rattle.xs_model.specs.declared.expr.Expr.TheVariants as expr
 use Rattle.xs_model.specs.declared.expr.Expr.TheOpen.{Expr-F}
-use Rattle.machine_json.specs.Expressions.{EachMeans, HasUnknownAmong, MeansExpr, IsReading, form_of, form_place, member_form, begins_with_dollar, object_form, none, object_place, only_operator, operator_of, over_three, over_two}
+use Rattle.machine_json.specs.Expressions.{EachMeans, HasUnknownAmong, MeansExpr, IsExpressionReading, form_of, form_place, member_form, begins_with_dollar, object_form, none, object_place, only_operator, operator_of, over_three, over_two}
 use Rattle.machine_json.specs.ExpressionParts.{HaveKeysAndMean, IsFirstUnknown, IsFormReading, IsThreeReading, IsTwoReading, joined, made_of, values_under, lesser}
 use Rattle.machine_json.specs.JsonValues.{json_value}
 use Rattle.machine_json.specs.declared.expressions.Operator.{Operator}
@@ -27,7 +27,7 @@ pub read_form-returns-in_err-parts-in-List : goal.read_form-returns-in_err-parts
 read_form-returns-in_err-parts-in-List t c =
     let kept : c.from_residual-in_err-parts-in-List.result ≡ Err c.in_err-parts-in-List.field-0.0 = search rules in
     let is : form_of c.args.json.now ≡ Some (Expr-F.List c.in-List.items) = ap (λ (j : OrderedJson). form_of j) c.in-List.is ∙ list-form c.in-List.place c.in-List.items in
-    subst (λ (r : Result Expr FormFault). IsReading c.args.answered c.args.json.now r) (sym kept)
+    subst (λ (r : Result Expr FormFault). IsExpressionReading c.args.answered c.args.json.now r) (sym kept)
     (reading-from_form c.args.answered c.args.json.now (Err c.in_err-parts-in-List.field-0.0) (Some (Expr-F.List c.in-List.items)) is
     (subst (λ (l : List OrderedJson). IsFirstUnknown c.args.answered l c.in_err-parts-in-List.field-0.0) c.as_slice.ensures c.in_err-parts-in-List.ensures.fault))
 
@@ -81,7 +81,7 @@ read_list-loop-item-preserved t c =
           let least_is : c.match-read_form.least ≡ lesser c.loop-item.least w.in-Err-Unknown.place = w.least-is ∙ w.lesser-least.ensures in
           subst (λ (l : List Expr). SoFar c.args.answered (take c.loop-item.item-index c.args.items.now ++ c.item-item.result ∷ []) l c.match-read_form.least) (sym parts_are)
           (subst (λ (o : Option ℕ). SoFar c.args.answered (take c.loop-item.item-index c.args.items.now ++ c.item-item.result ∷ []) c.loop-item.parts.items o) (sym least_is)
-          (so_far-unknown c.args.answered (take c.loop-item.item-index c.args.items.now) c.loop-item.parts.items c.loop-item.least c.item-item.result w.in-Err-Unknown.place c.loop-item.invariant (subst (λ (f : FormFault). IsReading c.args.answered c.item-item.result (Err f)) w.in-Err-Unknown.field-0-is w.in-Err-Unknown.ensures))))
+          (so_far-unknown c.args.answered (take c.loop-item.item-index c.args.items.now) c.loop-item.parts.items c.loop-item.least c.item-item.result w.in-Err-Unknown.place c.loop-item.invariant (subst (λ (f : FormFault). IsExpressionReading c.args.answered c.item-item.result (Err f)) w.in-Err-Unknown.field-0-is w.in-Err-Unknown.ensures))))
     ])
 
 pub read_list-returns-in-Some-clause-fault : goal.read_list-returns-in-Some-clause-fault
@@ -115,7 +115,7 @@ read_map-loop-member-preserved t c =
           let least_is : c.match-read_form.least ≡ lesser c.loop-member.least w.in-Err-Unknown.place = w.least-is ∙ w.lesser-least.ensures ∙ ap (λ (n : ℕ). lesser c.loop-member.least n) w.in-Err-Unknown.place-is in
           subst (λ (l : List (List ℕ × Expr)). MapSoFar c.args.answered (map member_parts (take c.loop-member.member-index c.args.members.now) ++ member_parts c.member-item.result ∷ []) l c.match-read_form.least) (sym parts_are)
           (subst (λ (o : Option ℕ). MapSoFar c.args.answered (map member_parts (take c.loop-member.member-index c.args.members.now) ++ member_parts c.member-item.result ∷ []) c.loop-member.parts.items o) (sym least_is)
-          (map_so_far-unknown c.args.answered (map member_parts (take c.loop-member.member-index c.args.members.now)) c.loop-member.parts.items c.loop-member.least (member_parts c.member-item.result) w.in-Err-Unknown.place c.loop-member.invariant (subst (λ (f : FormFault). IsReading c.args.answered (member_parts c.member-item.result).value (Err f)) w.in-Err-Unknown.field-0-is w.in-Err-Unknown.ensures))))
+          (map_so_far-unknown c.args.answered (map member_parts (take c.loop-member.member-index c.args.members.now)) c.loop-member.parts.items c.loop-member.least (member_parts c.member-item.result) w.in-Err-Unknown.place c.loop-member.invariant (subst (λ (f : FormFault). IsExpressionReading c.args.answered (member_parts c.member-item.result).value (Err f)) w.in-Err-Unknown.field-0-is w.in-Err-Unknown.ensures))))
     ])
 
 pub read_map-returns-in-Some-clause-fault : goal.read_map-returns-in-Some-clause-fault
