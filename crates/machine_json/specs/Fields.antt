@@ -57,8 +57,10 @@ is_history Compound = false
 is_history Parallel = false
 is_history Final = false
 
--- Whether a field may stand on a node of a kind that is the root, or isn't. A root that is final or a
--- history node, which no root may be, has the fields of that kind and those that the table gives a root.
+-- Whether a field may stand on a node of a kind that is the root, or isn't. A root that is final
+-- or a
+-- history node, which no root may be, has the fields of that kind and those that the table gives
+-- a root.
 abbrev pub stands_on : Field → Bool → NodeKind → Bool
 stands_on field.Id root kind = true
 stands_on field.Version root kind = root

@@ -24,7 +24,8 @@ use Rattle.machine_json.specs.SecondPass.{HasSecondPassFault, led_to}
 
 -- ---- the tree
 
--- a row with the default that the text of its node names, where it is a history node with a `target`
+-- a row with the default that the text of its node names, where it is a history node with a
+-- `target`
 abbrev pub with_named_default : List Node → ℕ → Node → NodeParts → Node
 with_named_default rows n row node =
     option_map_or
@@ -76,7 +77,8 @@ MeansGuardOr rows source (Some json) None = ⊥
 
 -- ---- transitions
 
--- the texts of the targets of a transition: the transition itself where it is a text, else those under `target`
+-- the texts of the targets of a transition: the transition itself where it is a text, else those
+-- under `target`
 abbrev pub target_texts : OrderedJson → List OrderedJson
 target_texts json =
     if is_text json then json ∷ [] else option_map_or listed (get (codes "target") (members_of json)) []
@@ -107,7 +109,8 @@ of_invocation node p =
     ++ under_key (codes "xstate.error.actor." ++ id) (codes "onError") members
     ++ under_key (codes "xstate.snapshot." ++ id) (codes "onSnapshot") members
 
--- the transitions of a node for events, each with its descriptor, in the order in which they are looked at
+-- the transitions of a node for events, each with its descriptor, in the order in which they are
+-- looked at
 abbrev pub candidates_of : List ℕ → List MemberParts → List (List ℕ × OrderedJson)
 candidates_of node members =
     flat_map (λ (m : MemberParts). under m.key m.value) (unwrap_or (get_object (codes "on") members) [])

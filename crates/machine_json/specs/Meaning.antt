@@ -1,4 +1,5 @@
--- What the parts of a machine text mean in which the first pass finds no fault. A part that a text lacks,
+-- What the parts of a machine text mean in which the first pass finds no fault. A part that a
+-- text lacks,
 -- and one that such a text doesn't have, means what is said of the absent one.
 use Rattle.std.specs.Prelude.{◌≡◌, ℕ, List, [], ◌∷◌, ◌++◌, Option, None, Some, codes, length, map, option_map, pos, slice_get, unwrap_or}
 use Rattle.std.specs.Fmt.{decimal}
@@ -91,7 +92,8 @@ abbrev pub MeansExprOr : Expr → Option OrderedJson → Expr → Type 0
 MeansExprOr absent None expr = expr ≡ absent
 MeansExprOr absent (Some json) expr = MeansExpr json expr
 
--- the id of the child of an invocation: the one that the text gives, or the place of the invocation and the id of
+-- the id of the child of an invocation: the one that the text gives, or the place of the
+-- invocation and the id of
 -- the node
 abbrev pub invoked_id : List ℕ → ℕ → List MemberParts → List ℕ
 invoked_id id place members = option_map_or text_of (get (codes "id") members) (decimal place ++ codes "." ++ id)

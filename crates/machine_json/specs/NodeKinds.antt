@@ -33,7 +33,8 @@ children_of members = unwrap_or (get_object (codes "states") members) []
 abbrev pub kind_in : List MemberParts → Option NodeKind
 kind_in members = option_and_then kind_of_word (get_text (codes "type") members)
 
--- the kind where `type` doesn't say it: compound if there are children; else a history node if there is
+-- the kind where `type` doesn't say it: compound if there are children; else a history node if
+-- there is
 -- `history`; else atomic
 abbrev pub kind_by_fields : List MemberParts → List MemberParts → NodeKind
 kind_by_fields (child ∷ children) members = Compound

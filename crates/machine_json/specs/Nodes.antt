@@ -1,4 +1,5 @@
--- The nodes of a machine text in document order: a parent before its children, and those in the order of
+-- The nodes of a machine text in document order: a parent before its children, and those in the
+-- order of
 -- the text.
 use Rattle.std.specs.Prelude.{◌≡◌, ◌⊎◌, ℕ, ◌+◌, List, [], ◌∷◌, ◌++◌, length, Option, None, Some, slice_get}
 use Rattle.ordered_json.specs.declared.json.OrderedJson.{OrderedJson}

@@ -88,7 +88,8 @@ invocation_fields =
     ∷ (codes "onSnapshot", role.Transitions)
     ∷ []
 
--- What the value under a key of an object is there for, if an object of this role has that key. The kind
+-- What the value under a key of an object is there for, if an object of this role has that key.
+-- The kind
 -- is that of the node, where the object is one.
 abbrev pub member_role : Role → NodeKind → List ℕ → Option Role
 member_role role.Root kind key = node_field true kind key
@@ -105,7 +106,8 @@ member_role role.Invocations kind key = lookup (bytes_eq key) invocation_fields
 member_role role.Invocation kind key = lookup (bytes_eq key) invocation_fields
 member_role _ kind key = Some role.Unread
 
--- how a key of an object is spelled: a node's is one that a target can name, a delay's is a name or fits
+-- how a key of an object is spelled: a node's is one that a target can name, a delay's is a name
+-- or fits
 abbrev pub takes_key : Role → List ℕ → Bool
 takes_key role.States key = is_state_key key
 takes_key role.After key = is_delay_key key

@@ -1,4 +1,5 @@
--- The faults of the second pass: ids that stand twice, texts that lead to no node, targets that clash.
+-- The faults of the second pass: ids that stand twice, texts that lead to no node, targets that
+-- clash.
 use Rattle.std.specs.Prelude.{◌≡◌, ◌⊎◌, ◌<◌, ℕ, true, ◌&&◌, List, [], Contains, Option, None, Some, codes, is_none, option_map, slice_get}
 use Rattle.std.specs.List.{flat_map}
 use Rattle.std.specs.Option.{option_map_or}
@@ -52,7 +53,8 @@ IsClash rows source targets fault =
     × (led_to rows source earlier ≡ Some s) × (led_to rows source later ≡ Some t)
     × DoClash rows s t × (fault ≡ Clash (place_of later))
 
--- a node may be the default of a history node: it is below the history node's parent and is no history node
+-- a node may be the default of a history node: it is below the history node's parent and is no
+-- history node
 abbrev pub MayBeDefault : List Node → ℕ → ℕ → Type 0
 MayBeDefault rows history d =
     ((parent : ℕ) → IsChild rows history parent → IsBelow rows d parent) × ¬ IsHistory rows d

@@ -16,9 +16,12 @@ use crate::role::Role;
 use ordered_json::OrderedJson;
 use std::alloc::{AllocError, Global};
 
-/// Whether each field, key and value of a machine text may stand where it stands, each compound node has
-/// its initial child, and there are not too many nodes. It answers the first fault of these. It looks at
-/// each part of the text once or twice, and takes memory for a list of the nodes and for each expression.
+/// Whether each field, key and value of a machine text may stand where it stands, each compound
+/// node has
+/// its initial child, and there are not too many nodes. It answers the first fault of these. It
+/// looks at
+/// each part of the text once or twice, and takes memory for a list of the nodes and for each
+/// expression.
 pub fn check_fields(alloc: Global, text: &OrderedJson) -> Result<(), MachineFault>
     ensures ok { OnOk result ((fault : MachineFault) → ¬ HasFirstPassFault text.now fault) }
     ensures fault { IfErr result (λ fault. fault ≢ MachineFault.Memory →

@@ -14,7 +14,8 @@ use crate::role::Role;
 use ordered_json::{Member, OrderedJson, get};
 use std::alloc::{AllocError, Global};
 
-/// The first fault of a value in a role, whether the value has it itself or a part of it. It looks at
+/// The first fault of a value in a role, whether the value has it itself or a part of it. It
+/// looks at
 /// each part once, and at the members of an object once more for its kind. It takes memory for the
 /// expressions, each of which is read and let go.
 #[cycle(first_pass)]

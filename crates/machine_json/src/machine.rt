@@ -45,7 +45,8 @@ pub type UnlinkedGuards = Items<UnlinkedGuard>;
 pub struct UnlinkedTransition {
     /// The node that it leads from.
     pub source: u32,
-    /// For which types of events it is: a type, or a pattern that ends in `*`. Empty for one of `always`.
+    /// For which types of events it is: a type, or a pattern that ends in `*`. Empty for one of
+    /// `always`.
     pub descriptor: Text,
     /// Where it leads, in the order of the text.
     pub targets: Targets,

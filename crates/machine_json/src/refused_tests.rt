@@ -1,4 +1,5 @@
-//! Machine texts that the first pass refuses, and some that it takes. A text has `'` for a quotation
+//! Machine texts that the first pass refuses, and some that it takes. A text has `'` for a
+//! quotation
 //! mark, and `^` before the byte at which the fault stands.
 
 use crate::*;

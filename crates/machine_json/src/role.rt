@@ -91,7 +91,8 @@ impl Role {
         }
     }
 
-    /// What the member of an object in this role is there for that has this key, if the object may have
+    /// What the member of an object in this role is there for that has this key, if the object
+    /// may have
     /// the key. The kind is that of the node, where the object is one.
     pub fn of_member(self, kind: NodeKind, key: &str) -> Option<Role>
         ensures { result ≡ member_role self kind key.now }
