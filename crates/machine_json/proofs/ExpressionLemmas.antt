@@ -18,7 +18,7 @@ use Rattle.machine_json.specs.declared.expressions.FormFault.{FormFault}
 use Rattle.machine_json.specs.declared.expressions.FormFault.TheVariants.{Unknown, Memory}
 use Rattle.machine_json.specs.declared.expressions.Operator.{Operator}
 use Rattle.machine_json.specs.Expressions.{EachMeans, HasUnknownAmong, HasUnknownForm, IsExpressionReading, MeansExpr, member_form, object_form, object_place, operator_form, operator_of, over_three, over_two, first, form_of, form_place, itself, later, means, more, none, operands, outline_of, within}
-use Rattle.machine_json.specs.ExpressionParts.{IsEachReading, IsFirstUnknown, IsFormReading, IsListReading, IsPathReading, IsTwoReading, IsThreeReading, MeansForm, if_three, if_two, joined, lesser, made_of, one_listed, three_listed, two_listed, values_under, HaveKeysAndMean}
+use Rattle.machine_json.specs.ExpressionParts.{IsEachReading, IsFirstUnknown, IsFormReading, IsListReading, IsPathReading, IsTwoReading, IsThreeReading, MeansForm, joined, lesser, made_of, one_listed, three_listed, two_listed}
 use Rattle.machine_json.specs.FirstFaults.{IsLeastPlace}
 
 -- ---- one meaning or a fault, never both

@@ -1,10 +1,9 @@
 -- That the meaning of an expression is one.
-use Rattle.std.proofs.Common.{◌≡◌, ℕ, List, [], ◌∷◌, Option, None, Some, map, refl, sym, ap, subst, ◌∙◌, rules}
+use Rattle.std.proofs.Common.{◌≡◌, ℕ, List, [], ◌∷◌, map, refl, sym, ap, subst, ◌∙◌, rules}
 use Rattle.ordered_json.specs.declared.json.OrderedJson.{OrderedJson}
 use Rattle.xs_model.specs.declared.expr.Expr.{Expr, out-Expr, the_lemmas}
 use Rattle.xs_model.specs.declared.expr.Expr.TheOpen.{Expr-F}
-use Rattle.xs_model.specs.declared.expr.Expr.TheViews.{roll-Expr}
-use Rattle.machine_json.specs.Expressions.{EachMeans, MeansExpr, form_of, means, more, none, operands, outline_of}
+use Rattle.machine_json.specs.Expressions.{EachMeans, MeansExpr, means, more, none, operands, outline_of}
 use Rattle.machine_json.proofs.ExpressionLemmas.{same_form}
 
 -- keys with what stands under them

@@ -10,10 +10,8 @@ use Rattle.xs_model.specs.declared.expr.Expr.{Expr, the_lemmas}
 use Rattle.xs_model.specs.declared.expr.Expr.TheOpen.{Expr-F}
 use Rattle.xs_model.specs.declared.expr.Expr.TheVariants as expr
 use Rattle.machine_json.specs.declared.expressions.FormPlace.{FormPlace}
-use Rattle.machine_json.specs.declared.expressions.FormPlace.TheVariants.{AtObject, AtOperator}
 use Rattle.machine_json.specs.declared.expressions.FormFault.{FormFault}
-use Rattle.machine_json.specs.declared.expressions.FormFault.TheVariants.{Unknown, Memory}
-use Rattle.machine_json.specs.Expressions.{EachMeans, HasUnknownAmong, HasUnknownForm, MeansExpr, begins_with_dollar, more, none, object_form, object_place, only_operator, operands, operator_place, place_at}
+use Rattle.machine_json.specs.Expressions.{EachMeans, HasUnknownAmong, HasUnknownForm, MeansExpr, begins_with_dollar, more, none, object_form, object_place, only_operator, operands, place_at}
 use Rattle.machine_json.specs.ExpressionParts.{HaveKeysAndMean, IsFirstUnknown, IsFormReading, MeansForm, lesser, values_under}
 use Rattle.machine_json.specs.FirstFaults.{IsLeastPlace}
 use Rattle.machine_json.proofs.ExpressionLemmas.{SoFar, form-means, so_far-means, so_far-unknown}

@@ -1,12 +1,11 @@
 -- The nodes of a text, added one after another.
-use Rattle.std.proofs.Common.{◌≡◌, ◌⊎◌, ℕ, zero, suc, ◌+◌, ◌<◌, ◌≤◌, Bool, true, false, List, [], ◌∷◌, ◌++◌, Some, None, Option, length, map, take, get_or, refl, ap, sym, ◌∙◌, subst, inl, inr, arith, rules, append_assoc, append-nil, add-zero, add_assoc, length-append}
-use Rattle.std.specs.Prelude.{codes, find, slice_get, option_map, unwrap_or, ℤ, Result, Ok, Err, OnOk}
+use Rattle.std.proofs.Common.{◌≡◌, ℕ, zero, suc, ◌+◌, ◌<◌, Bool, true, false, List, [], ◌∷◌, ◌++◌, Some, None, Option, length, map, take, get_or, refl, ap, sym, ◌∙◌, subst, arith, append_assoc, append-nil, add-zero, length-append}
+use Rattle.std.specs.Prelude.{codes, slice_get, option_map, Result, Ok, Err, OnOk}
 use Rattle.std.proofs.lemmas.List.{take_more}
 use Rattle.std.proofs.lemmas.Option.{get_or_from_slice_get, slice_get-map, slice_get_read, slice_get_within}
 use Rattle.std.specs.Str.{bytes_eq}
 use Rattle.ordered_json.specs.declared.json.Member.{Member}
-use Rattle.ordered_json.specs.declared.json.OrderedJson.{OrderedJson, the_lemmas as json_lemmas}
-use Rattle.ordered_json.specs.declared.json.OrderedJson.TheVariants as json
+use Rattle.ordered_json.specs.declared.json.OrderedJson.{OrderedJson}
 use Rattle.ordered_json.specs.Words.{MemberParts, get, member_parts, place_of}
 use Rattle.machine_json.specs.NodeKinds.{children_of, members_of}
 use Rattle.machine_json.specs.declared.fault.MachineFault.{MachineFault}
@@ -74,7 +73,7 @@ unlike : (key : List ℕ) (m : MemberParts) (members : List MemberParts) (test :
 unlike key m members true is nothing = let some : get key (m ∷ members) ≡ Some m.value = rw is refl in absurd (cc)
 unlike key m members false is nothing = (refl, let rest : get key (m ∷ members) ≡ get key members = rw is refl in sym rest ∙ nothing)
 
-skipped : (key : List ℕ) (m : MemberParts) (members : List MemberParts) → bytes_eq m.key key ≡ false → get key (m ∷ members) ≡ get key members
+pub skipped : (key : List ℕ) (m : MemberParts) (members : List MemberParts) → bytes_eq m.key key ≡ false → get key (m ∷ members) ≡ get key members
 skipped key m members is = rw is refl
 
 -- what stands under a key, where none of the members before it has the key

@@ -1,5 +1,5 @@
 -- The faults that a value has itself.
-use Rattle.std.proofs.Common.{◌≡◌, ◌≤◌, ℕ, List, Some, None, Option, refl, ap, arith, subst}
+use Rattle.std.proofs.Common.{◌≡◌, ◌≤◌, ℕ, Some, None, Option, refl, ap, arith, subst}
 use Rattle.std.specs.Prelude.{Contains, Result, Ok, Err}
 use Rattle.std.specs.Result.{result_err}
 use Rattle.ordered_json.specs.declared.json.OrderedJson.{OrderedJson}
@@ -10,7 +10,7 @@ use Rattle.machine_json.specs.declared.fault.MachineFault.TheVariants.{UnknownFi
 use Rattle.machine_json.specs.declared.role.Role.{Role}
 use Rattle.machine_json.specs.declared.role.Role.TheVariants as roles
 use Rattle.machine_json.specs.Expressions.{HasUnknownForm, IsExprReading}
-use Rattle.machine_json.specs.FirstFaults.{IsFirst, IsLeastPlace}
+use Rattle.machine_json.specs.FirstFaults.{IsLeastPlace}
 use Rattle.machine_json.specs.FirstPass.{HasOwnFault, IsFormFault, TellsFirst, own_faults}
 use Rattle.machine_json.proofs.ExpressionLemmas.{meaning_excludes}
 use Rattle.machine_json.specs.MachineFaults.{machine_fault_number, machine_fault_place}

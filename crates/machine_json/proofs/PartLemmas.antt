@@ -1,6 +1,6 @@
 -- The faults of a value are its own and those of its parts.
-use Rattle.std.proofs.Common.{◌≡◌, ◌⊎◌, ℕ, ◌<◌, ◌≤◌, List, [], ◌∷◌, map, Some, None, Option, refl, ap, sym, ◌∙◌, subst, inl, inr, length, ◌+◌, arith, rules}
-use Rattle.std.specs.Prelude.{Contains, slice_get, Bool, ℤ}
+use Rattle.std.proofs.Common.{◌≡◌, ◌⊎◌, ℕ, ◌<◌, List, [], map, Some, None, Option, ap, sym, ◌∙◌, subst, inl, inr, length, arith, rules}
+use Rattle.std.specs.Prelude.{Contains, Bool, ℤ}
 use Rattle.std.proofs.lemmas.Option.{slice_get_within}
 use Rattle.ordered_json.specs.declared.json.Member.{Member}
 use Rattle.ordered_json.specs.declared.json.OrderedJson.{the_lemmas as json_lemmas}
@@ -37,13 +37,13 @@ from_part role json fault (inr (inr is)) = elim is.3 [
 
 -- ---- the parts of each kind of JSON
 
-items-List : (place : ℕ) (items : List OrderedJson) → items_of (json.List place items) ≡ items
+pub items-List : (place : ℕ) (items : List OrderedJson) → items_of (json.List place items) ≡ items
 items-List place items = search (rules, json_lemmas)
 
-members-List : (place : ℕ) (items : List OrderedJson) → members_of (json.List place items) ≡ []
+pub members-List : (place : ℕ) (items : List OrderedJson) → members_of (json.List place items) ≡ []
 members-List place items = search (rules, json_lemmas)
 
-items-Object : (place : ℕ) (members : List Member) → items_of (json.Object place members) ≡ []
+pub items-Object : (place : ℕ) (members : List Member) → items_of (json.Object place members) ≡ []
 items-Object place members = search (rules, json_lemmas)
 
 pub members-Object : (place : ℕ) (members : List Member) → members_of (json.Object place members) ≡ map member_parts members
@@ -80,13 +80,13 @@ IsScalar whole =
     ⊎ (((place : ℕ) × (truth : Bool) × (whole ≡ json.Bool place truth))
     ⊎ (((place : ℕ) × (n : ℤ) × (whole ≡ json.Int place n)) ⊎ ((place : ℕ) × (text : List ℕ) × (whole ≡ json.Text place text))))
 
-scalar_items : (whole : OrderedJson) → IsScalar whole → items_of whole ≡ []
+pub scalar_items : (whole : OrderedJson) → IsScalar whole → items_of whole ≡ []
 scalar_items whole (inl is) = ap items_of is.1 ∙ items-Null is.0
 scalar_items whole (inr (inl is)) = ap items_of is.2 ∙ items-Bool is.0 is.1
 scalar_items whole (inr (inr (inl is))) = ap items_of is.2 ∙ items-Int is.0 is.1
 scalar_items whole (inr (inr (inr is))) = ap items_of is.2 ∙ items-Text is.0 is.1
 
-scalar_members : (whole : OrderedJson) → IsScalar whole → members_of whole ≡ []
+pub scalar_members : (whole : OrderedJson) → IsScalar whole → members_of whole ≡ []
 scalar_members whole (inl is) = ap members_of is.1 ∙ members-Null is.0
 scalar_members whole (inr (inl is)) = ap members_of is.2 ∙ members-Bool is.0 is.1
 scalar_members whole (inr (inr (inl is))) = ap members_of is.2 ∙ members-Int is.0 is.1

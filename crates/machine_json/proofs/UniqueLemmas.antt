@@ -1,5 +1,5 @@
 -- A place and a number are those of one fault.
-use Rattle.std.proofs.Common.{◌≡◌, ◌≤◌, ℕ, refl, sym, ap, ◌∙◌, arith}
+use Rattle.std.proofs.Common.{◌≡◌, ℕ, refl, sym, ap, ◌∙◌, arith}
 use Rattle.std.specs.Prelude.{◌==◌, if◌then◌else◌}
 use Rattle.machine_json.specs.declared.fault.MachineFault.{MachineFault}
 use Rattle.machine_json.specs.declared.fault.MachineFault.TheVariants.{UnknownField, BadKind, NoInitial, EmptyStates, TooMany, DoubleId, NoTarget, Clash, Memory}

@@ -1,7 +1,7 @@
 -- What the parts of a reading of expressions answer.
 use Rattle.std.specs.Prelude.{◌≡◌, ℕ, min, List, [], ◌∷◌, map, Option, None, Some, Result, Ok, Err}
 use Rattle.ordered_json.specs.declared.json.OrderedJson.{OrderedJson}
-use Rattle.ordered_json.specs.Words.{MemberParts, as_text}
+use Rattle.ordered_json.specs.Words.{MemberParts}
 use Rattle.xs_model.specs.declared.expr.Expr.{Expr, out-Expr}
 use Rattle.xs_model.specs.declared.expr.Expr.TheOpen.{Expr-F}
 use Rattle.xs_model.specs.declared.expr.PathRoot.{PathRoot}

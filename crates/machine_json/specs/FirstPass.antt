@@ -15,7 +15,7 @@ use Rattle.machine_json.specs.declared.expressions.FormPlace.TheVariants.{AtObje
 use Rattle.machine_json.specs.Expressions.{HasUnknownForm}
 use Rattle.machine_json.specs.FirstFaults.{IsFirst}
 use Rattle.machine_json.specs.MachineFaults.{machine_fault_number, machine_fault_place}
-use Rattle.machine_json.specs.NodeKinds.{children_of, kind_of_members, members_of, node_kind}
+use Rattle.machine_json.specs.NodeKinds.{children_of, members_of, node_kind}
 use Rattle.machine_json.specs.Fields.{is_history}
 use Rattle.machine_json.specs.Roles.{is_empty, is_text_with, item_role, member_role, takes, takes_key}
 

@@ -1,5 +1,7 @@
 -- The value that JSON gives where any JSON may stand.
-use Rattle.std.specs.Prelude.{ℕ, List, [], fold}
+use Rattle.std.specs.Prelude.{ℕ, List, [], String, fold, map}
+use Rattle.std.specs.String.{string_bytes}
+use Rattle.std.specs.declared.alloc.Global.{Global}
 use Rattle.xs_model.specs.declared.value.Value.{Value}
 use Rattle.xs_model.specs.declared.value.Value.TheVariants as value
 use Rattle.xs_model.specs.Rising.{put}
@@ -10,9 +12,21 @@ use Rattle.ordered_json.specs.declared.json.Member.{Member-F}
 abbrev pub member_value : Member-F Value (List ℕ × Value) → List ℕ × Value
 member_value member = (member.key, member.value)
 
+-- pairs put one after another, so that they stand by their keys, and the last one under a key counts
+abbrev pub put_each : List (List ℕ × Value) → List (List ℕ × Value)
+put_each members =
+    fold
+    (λ (sorted : List (List ℕ × Value)) (member : List ℕ × Value). put sorted member.0 member.1)
+    [] members
+
 -- members by their keys
 abbrev pub members_value : List (List ℕ × Value) → Value
-members_value members = value.Map (fold (λ (sorted : List (List ℕ × Value)) (member : List ℕ × Value). put sorted member.0 member.1) [] members)
+members_value members = value.Map (put_each members)
+
+-- values under strings, as values under the strings' bytes
+abbrev pub pairs_of : List (String Global × Value) → List (List ℕ × Value)
+pairs_of entries =
+    map (λ (entry : String Global × Value). let pair : List ℕ × Value = (string_bytes entry.0, entry.1) in pair) entries
 
 -- one layer of JSON, without its place
 abbrev pub layer_value : OrderedJson-F Value (List ℕ × Value) → Value

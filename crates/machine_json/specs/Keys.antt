@@ -1,5 +1,5 @@
 -- How keys are spelled that may not be any text.
-use Rattle.std.specs.Prelude.{ℕ, Bool, true, false, not, ◌&&◌, ◌||◌, ◌==◌, List, [], ◌∷◌, length, nat_le, nat_lt, slice_index, Option, Some, None, if◌then◌else◌}
+use Rattle.std.specs.Prelude.{ℕ, Bool, not, ◌&&◌, ◌||◌, ◌==◌, List, length, nat_le, nat_lt, slice_index, Option, Some, None, if◌then◌else◌}
 use Rattle.std.specs.List.{list_all, list_any}
 use Rattle.ordered_json.specs.Meaning.{magnitude}
 use Rattle.xs_data.specs.Ascii.{digit_nine, digit_zero, full_stop, number_sign}

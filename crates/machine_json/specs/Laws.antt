@@ -6,6 +6,8 @@ use Rattle.machine_json.specs.declared.expressions.FormPlace.{FormPlace}
 use Rattle.machine_json.specs.Expressions.{HasUnknownForm, MeansExpr}
 use Rattle.machine_json.specs.declared.fault.MachineFault.{MachineFault}
 use Rattle.machine_json.specs.FirstFaults.{IsFirst, IsLeastPlace}
+use Rattle.machine_json.specs.declared.machine.Machine.{Machine}
+use Rattle.machine_json.specs.Machines.{IsAnsweredFault, MeansMachine}
 use Rattle.machine_json.specs.MachineFaults.{machine_fault_number, machine_fault_place}
 use Rattle.machine_json.specs.Nodes.{HasFirstPassFault}
 use Rattle.machine_json.specs.SecondPass.{HasSecondPassFault}
@@ -29,3 +31,10 @@ pub record PassesAnswerOnce : Type 0 where
       → IsFirstFault (HasFirstPassFault text) fault → IsFirstFault (HasFirstPassFault text) other → fault ≡ other
   pub second_pass : (text : OrderedJson) (fault other : MachineFault)
       → IsFirstFault (HasSecondPassFault text) fault → IsFirstFault (HasSecondPassFault text) other → fault ≡ other
+
+-- one fault alone is answered of a machine text, and none of a text that means a machine
+pub record MachineMeansOnce : Type 0 where
+  pub one_fault : (text : OrderedJson) (fault other : MachineFault)
+      → IsAnsweredFault text fault → IsAnsweredFault text other → fault ≡ other
+  pub never_both : (text : OrderedJson) (machine : Machine) (fault : MachineFault)
+      → MeansMachine text machine → IsAnsweredFault text fault → ⊥

@@ -1,5 +1,5 @@
 -- What a machine text means in which neither pass finds a fault.
-use Rattle.std.specs.Prelude.{◌≡◌, ℕ, false, List, [], ◌∷◌, ◌++◌, Option, None, Some, ⊤, codes, length, map, option_and_then, slice_get, unwrap_or, if◌then◌else◌}
+use Rattle.std.specs.Prelude.{◌≡◌, ◌⊎◌, ℕ, false, List, [], ◌∷◌, ◌++◌, Option, None, Some, ⊤, codes, length, map, option_and_then, option_map, slice_get, unwrap_or, if◌then◌else◌}
 use Rattle.std.specs.List.{enumerate_from, flat_map}
 use Rattle.std.specs.Option.{option_map_or}
 use Rattle.ordered_json.specs.declared.json.OrderedJson.{OrderedJson}
@@ -14,7 +14,9 @@ use Rattle.machine_json.specs.declared.machine.UnlinkedGuard.{UnlinkedGuard}
 use Rattle.machine_json.specs.declared.machine.UnlinkedGuard.TheVariants as guard
 use Rattle.machine_json.specs.declared.machine.UnlinkedNode.{UnlinkedNode}
 use Rattle.machine_json.specs.declared.machine.UnlinkedTransition.{UnlinkedTransition}
+use Rattle.machine_json.specs.FirstFaults.{IsFirst}
 use Rattle.machine_json.specs.FirstPass.{items_of}
+use Rattle.machine_json.specs.MachineFaults.{machine_fault_number, machine_fault_place}
 use Rattle.machine_json.specs.Meaning.{AreInvocations, MeansExprOr, actions_under, after_type, invoked_id, delays_of, invocation_texts, listed, named_of, params_of, tags_of}
 use Rattle.machine_json.specs.NodeKinds.{members_of}
 use Rattle.machine_json.specs.Nodes.{AreNodes, HasFirstPassFault, NodeParts}
@@ -24,13 +26,20 @@ use Rattle.machine_json.specs.SecondPass.{HasSecondPassFault, led_to}
 
 -- ---- the tree
 
+-- the node that the text of a history node names as its default, where it names one
+abbrev pub named_default : List Node → ℕ → NodeParts → Option ℕ
+named_default rows n node =
+    option_map (λ target. unwrap_or (led_to rows n target) 0) (get (codes "target") (fields_in node))
+
+-- a row with a default, where there is one and the row is a history node's
+abbrev pub row_with_default : Option ℕ → Node → Node
+row_with_default None row = row
+row_with_default (Some default) row = record row { kind = with_default row.kind default }
+
 -- a row with the default that the text of its node names, where it is a history node with a
 -- `target`
 abbrev pub with_named_default : List Node → ℕ → Node → NodeParts → Node
-with_named_default rows n row node =
-    option_map_or
-    (λ target. record row { kind = with_default row.kind (unwrap_or (led_to rows n target) 0) })
-    (get (codes "target") (fields_in node)) row
+with_named_default rows n row node = row_with_default (named_default rows n node) row
 
 -- the tree of a text with these nodes
 pub record IsTreeOf (nodes : List NodeParts) (tree : List Node) : Type 0 where
@@ -100,14 +109,16 @@ under descriptor json = map (λ (t : OrderedJson). (descriptor, t)) (listed json
 abbrev pub under_key : List ℕ → List ℕ → List MemberParts → List (List ℕ × OrderedJson)
 under_key descriptor key members = option_map_or (under descriptor) (get key members) []
 
--- those of the invocation at a place of the node with this id
-abbrev pub of_invocation : List ℕ → ℕ × OrderedJson → List (List ℕ × OrderedJson)
-of_invocation node p =
-    let members = members_of p.1 in
-    let id = invoked_id node p.0 members in
+-- those of the invocation of the child with this id
+abbrev pub of_child : List ℕ → List MemberParts → List (List ℕ × OrderedJson)
+of_child id members =
     under_key (codes "xstate.done.actor." ++ id) (codes "onDone") members
     ++ under_key (codes "xstate.error.actor." ++ id) (codes "onError") members
     ++ under_key (codes "xstate.snapshot." ++ id) (codes "onSnapshot") members
+
+-- those of the invocation at a place of the node with this id
+abbrev pub of_invocation : List ℕ → ℕ × OrderedJson → List (List ℕ × OrderedJson)
+of_invocation node p = of_child (invoked_id node p.0 (members_of p.1)) (members_of p.1)
 
 -- the transitions of a node for events, each with its descriptor, in the order in which they are
 -- looked at
@@ -123,6 +134,11 @@ pub record AreTransitions (rows : List Node) (source : ℕ) (texts : List (List 
   pub count : length transitions ≡ length texts
   pub each : (k : ℕ) (text : List ℕ × OrderedJson) (transition : UnlinkedTransition) → slice_get texts k ≡ Some text
       → slice_get transitions k ≡ Some transition → MeansTransition rows source text.0 text.1 transition
+
+-- the new transitions are the old ones, and behind them those of a list of texts
+abbrev pub AddsTransitions : List Node → ℕ → List (List ℕ × OrderedJson) → List UnlinkedTransition → List UnlinkedTransition → Type 0
+AddsTransitions rows source texts old new =
+    (added : List UnlinkedTransition) × (new ≡ old ++ added) × AreTransitions rows source texts added
 
 -- ---- nodes and machines
 
@@ -151,3 +167,11 @@ pub record MeansMachine (text : OrderedJson) (machine : Machine) : Type 0 where
   pub count : length machine.nodes ≡ length nodes
   pub said : (n : ℕ) (node : NodeParts) (said : UnlinkedNode) → slice_get nodes n ≡ Some node
       → slice_get machine.nodes n ≡ Some said → MeansNode nodes n node said
+
+-- the fault that is answered of a text: the first one of the first pass, or of the second pass
+-- where the first finds none
+abbrev pub IsAnsweredFault : OrderedJson → MachineFault → Type 0
+IsAnsweredFault text fault =
+    IsFirst machine_fault_place machine_fault_number (HasFirstPassFault text) fault
+    ⊎ (((other : MachineFault) → ¬ HasFirstPassFault text other)
+    × IsFirst machine_fault_place machine_fault_number (HasSecondPassFault text) fault)

@@ -1,5 +1,5 @@
 -- The kind of a node: what its `type` says, or else what its other members tell.
-use Rattle.std.specs.Prelude.{ℕ, Bool, List, [], ◌∷◌, Option, None, Some, codes, is_some, option_and_then, unwrap_or, if◌then◌else◌}
+use Rattle.std.specs.Prelude.{ℕ, List, [], ◌∷◌, Option, codes, is_some, option_and_then, unwrap_or, if◌then◌else◌}
 use Rattle.std.specs.Map.{lookup}
 use Rattle.std.specs.Str.{bytes_eq}
 use Rattle.ordered_json.specs.declared.json.OrderedJson.{OrderedJson}

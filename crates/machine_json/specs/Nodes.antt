@@ -50,3 +50,9 @@ IsTooMany text fault =
 -- a fault of the first pass
 abbrev pub HasFirstPassFault : OrderedJson → MachineFault → Type 0
 HasFirstPassFault text fault = HasFaultAs role.Root text fault ⊎ IsTooMany text fault
+
+-- the nodes are those of a text in which the first pass finds no fault
+pub record AreFaultlessAtFirst (nodes : List NodeParts) : Type 0 where
+  pub text : OrderedJson
+  pub are_nodes : AreNodes 0 None [] text nodes
+  pub first_pass : (fault : MachineFault) → ¬ HasFirstPassFault text fault

@@ -1,9 +1,8 @@
 -- The rows of the tree that the nodes of a text are, with their ids.
-use Rattle.std.specs.Prelude.{◌==◌, ◌&&◌, ℕ, Bool, List, [], ◌∷◌, ◌++◌, Option, None, Some, codes, fold, map, nat_eq, position, slice_index_or, unwrap_or, if◌then◌else◌}
+use Rattle.std.specs.Prelude.{◌≡◌, ◌<◌, ◌^◌, ◌&&◌, ℕ, Bool, List, [], ◌∷◌, ◌++◌, Option, None, Some, IfSome, codes, fold, length, map, nat_eq, position, slice_get, slice_index_or, unwrap_or, if◌then◌else◌}
 use Rattle.std.specs.List.{enumerate_from}
 use Rattle.std.specs.Option.{option_eq, option_map_or}
 use Rattle.std.specs.Str.{bytes_eq}
-use Rattle.ordered_json.specs.declared.json.OrderedJson.{OrderedJson}
 use Rattle.ordered_json.specs.Words.{MemberParts, get, get_text, place_of}
 use Rattle.node_tree.specs.declared.node.Kind.{Kind}
 use Rattle.node_tree.specs.declared.node.Kind.TheVariants as kind
@@ -55,22 +54,35 @@ abbrev pub child_number : List NodeParts → ℕ → List ℕ → Option ℕ
 child_number nodes n key =
     position (λ node. option_eq nat_eq node.parent (Some n) && bytes_eq node.key key) nodes
 
+-- the key that the text says of the initial child of a node
+abbrev pub initial_key : NodeParts → List ℕ
+initial_key node = unwrap_or (get_text (codes "initial") (fields_in node)) []
+
+-- the number of the child of a node that its text names as the initial one
+abbrev pub initial_child : List NodeParts → ℕ → NodeParts → Option ℕ
+initial_child nodes n node = child_number nodes n (initial_key node)
+
 -- the number of the initial child of a node
 abbrev pub initial_number : List NodeParts → ℕ → NodeParts → ℕ
-initial_number nodes n node =
-    unwrap_or (child_number nodes n (unwrap_or (get_text (codes "initial") (fields_in node)) [])) 0
+initial_number nodes n node = unwrap_or (initial_child nodes n node) 0
 
 -- whether a history node is deep
 abbrev pub is_deep : NodeParts → Bool
 is_deep node = bytes_eq (unwrap_or (get_text (codes "history") (fields_in node)) []) (codes "deep")
 
+-- the kind of a node in the tree, from the number of its initial child, without the default of a
+-- history node
+abbrev pub kind_with_initial : ℕ → NodeParts → NodeKind → Kind
+kind_with_initial initial node Atomic = kind.Atomic
+kind_with_initial initial node Compound = kind.Compound initial
+kind_with_initial initial node Parallel = kind.Parallel
+kind_with_initial initial node Final = kind.Final
+kind_with_initial initial node History =
+    if is_deep node then kind.Deep None else kind.Shallow None
+
 -- the kind of a node in the tree, without the default of a history node
 abbrev pub row_kind : List NodeParts → ℕ → NodeParts → NodeKind → Kind
-row_kind nodes n node Atomic = kind.Atomic
-row_kind nodes n node Compound = kind.Compound (initial_number nodes n node)
-row_kind nodes n node Parallel = kind.Parallel
-row_kind nodes n node Final = kind.Final
-row_kind nodes n node History = if is_deep node then kind.Deep None else kind.Shallow None
+row_kind nodes n node kind = kind_with_initial (initial_number nodes n node) node kind
 
 -- ---- rows
 
@@ -82,6 +94,13 @@ row_of nodes n node = record {
   key = node.key;
   id = node_id nodes n node;
 }
+
+-- a list of nodes that rows may be made of: each parent stands before its children, and a number
+-- has 32 bits
+pub record HaveEarlierParents (nodes : List NodeParts) : Type 0 where
+  pub few : length nodes < 2 ^ 32
+  pub parents : (n : ℕ) (node : NodeParts) → slice_get nodes n ≡ Some node
+      → IfSome node.parent (λ parent. parent < n)
 
 -- the rows of the nodes, in which the defaults of history nodes are open
 abbrev pub open_rows : List NodeParts → List Node

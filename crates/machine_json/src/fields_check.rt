@@ -35,7 +35,7 @@ pub fn check_fields(alloc: Global, text: &OrderedJson) -> Result<(), MachineFaul
 }
 
 /// The first fault of the first pass.
-fn first_of_text(
+pub(crate) fn first_of_text(
     alloc: Global,
     text: &OrderedJson,
     nodes: &[NodeText<'_>],

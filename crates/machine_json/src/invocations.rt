@@ -27,7 +27,7 @@ pub(crate) fn expr_under(alloc: Global, key: &str, members: &[Member]) -> Result
 }
 
 /// The expression that a value is.
-fn expr_of(alloc: Global, json: &OrderedJson) -> Result<Expr, AllocError>
+pub(crate) fn expr_of(alloc: Global, json: &OrderedJson) -> Result<Expr, AllocError>
     ensures { IfOk result (λ expr. MeansExprOr expression.Null (Some json.now) expr) }
 {
     match read_expr(alloc, json) {
@@ -72,7 +72,7 @@ pub(crate) fn invocation(
 }
 
 /// The id of the child of an invocation.
-fn invoked_id(
+pub(crate) fn invoked_id(
     alloc: Global,
     node: &str,
     place: usize,

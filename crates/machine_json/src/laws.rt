@@ -1,6 +1,6 @@
 //! Laws of the definitions that the contracts cite, as contracts of calls that change nothing.
 
-ghost use Rattle.machine_json.specs.Laws.{ExprMeansOnce, PassesAnswerOnce};
+ghost use Rattle.machine_json.specs.Laws.{ExprMeansOnce, MachineMeansOnce, PassesAnswerOnce};
 
 /// JSON as an expression has one meaning at most, one place at most where it is refused, and never
 /// both.
@@ -11,4 +11,9 @@ pub fn expression_means_once()
 /// Of the faults that a pass finds in a text one alone is first.
 pub fn passes_answer_once()
     ensures { PassesAnswerOnce }
+{}
+
+/// One fault alone is answered of a machine text, and none of a text that means a machine.
+pub fn machine_means_once()
+    ensures { MachineMeansOnce }
 {}

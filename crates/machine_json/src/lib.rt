@@ -2,6 +2,8 @@
 #![tactic(auto)]
 
 mod actions;
+mod clash;
+mod defaults;
 mod delays;
 #[cfg(test)]
 mod expression_tests;
@@ -11,16 +13,27 @@ mod field;
 mod fields_check;
 mod first;
 mod first_pass;
+mod guards;
 mod invocations;
 mod key;
 mod kind_word;
 pub mod laws;
+#[cfg(test)]
+mod link_fault_tests;
+mod links;
 mod machine;
+mod node_meaning;
 mod nodes;
+mod reading;
+#[cfg(test)]
+mod reading_tests;
 #[cfg(test)]
 mod refused_tests;
 mod role;
 mod role_value;
+mod rows;
+mod second_pass;
+mod transitions;
 mod values;
 
 pub use expressions::{FormFault, FormPlace, Operator, read_expr, read_form};
@@ -34,4 +47,5 @@ pub use machine::{
     UnlinkedNodes, UnlinkedTransition, UnlinkedTransitions,
 };
 pub use nodes::MAX_NODES;
+pub use reading::read_machine;
 pub use values::json_value;

@@ -7,7 +7,7 @@ use std::alloc::{AllocError, Global};
 use std::test::Fail;
 
 /// A text without its mark, and the place of the mark.
-fn unmarked(alloc: Global, marked: &str) -> Result<(Vec<u8>, usize), AllocError> {
+pub(crate) fn unmarked(alloc: Global, marked: &str) -> Result<(Vec<u8>, usize), AllocError> {
     let mut text = Vec::new(alloc);
     let mut place = 0;
     for byte in marked.as_bytes() {
@@ -356,7 +356,7 @@ fn taken(rt: HostRuntime) -> Result<(), Fail> {
 }
 
 /// A machine of so many nodes, and where the last one stands.
-fn wide(alloc: Global, nodes: usize) -> Result<(String, usize), AllocError> {
+pub(crate) fn wide(alloc: Global, nodes: usize) -> Result<(String, usize), AllocError> {
     let mut text = String::from_str(alloc, "{\"type\":\"parallel\",\"states\":{\"s\":{}")?;
     let mut last = 0;
     for n in 2..nodes {

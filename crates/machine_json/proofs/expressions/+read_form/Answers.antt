@@ -1,5 +1,5 @@
-use Rattle.std.proofs.Common.{Vec, rules, ◌≡◌, ◌+◌, find, inl, inr, map, ℕ, ℤ, Bool, List, [], ◌∷◌, ◌++◌, take, get_or, length, sym, ap, ◌∙◌, subst, Option, Some, None, arith, refl, to_z, of_z, w64, ◌<◌, ◌≤◌, ◌⊎◌, Bor}
-use Rattle.std.specs.Prelude.{Result, Ok, Err, option_map, option_and_then}
+use Rattle.std.proofs.Common.{Vec, rules, ◌≡◌, ◌+◌, find, inl, inr, map, ℕ, ℤ, List, [], ◌∷◌, ◌++◌, take, length, sym, ap, ◌∙◌, subst, Option, Some, None, arith, refl, to_z, of_z, w64, ◌<◌, ◌≤◌, ◌⊎◌, Bor}
+use Rattle.std.specs.Prelude.{Result, Ok, Err}
 use Rattle.std.specs.Option.{option_copied}
 use Rattle.std.specs.declared.alloc.Global.{Global}
 use Rattle.std.proofs.lemmas.Grind.{common_steps}
@@ -10,15 +10,15 @@ use Rattle.ordered_json.specs.Words.{MemberParts, as_list, as_text, key_of, memb
 use Rattle.xs_model.specs.declared.expr.Expr.{Expr}
 use Rattle.xs_model.specs.declared.expr.Expr.TheVariants as expr
 use Rattle.xs_model.specs.declared.expr.Expr.TheOpen.{Expr-F}
-use Rattle.machine_json.specs.Expressions.{EachMeans, HasUnknownAmong, MeansExpr, IsExpressionReading, form_of, form_place, member_form, begins_with_dollar, object_form, none, object_place, only_operator, operator_of, over_three, over_two}
-use Rattle.machine_json.specs.ExpressionParts.{HaveKeysAndMean, IsFirstUnknown, IsFormReading, IsThreeReading, IsTwoReading, joined, made_of, values_under, lesser}
+use Rattle.machine_json.specs.Expressions.{EachMeans, HasUnknownAmong, MeansExpr, IsExpressionReading, form_of, form_place, member_form, begins_with_dollar, object_form, none, object_place, only_operator, operator_of}
+use Rattle.machine_json.specs.ExpressionParts.{HaveKeysAndMean, IsFirstUnknown, IsFormReading, joined, values_under, lesser}
 use Rattle.machine_json.specs.JsonValues.{json_value}
 use Rattle.machine_json.specs.declared.expressions.Operator.{Operator}
 use Rattle.machine_json.specs.declared.expressions.Operator.TheVariants as operator
 use Rattle.machine_json.specs.FirstFaults.{IsLeastPlace}
 use Rattle.machine_json.specs.declared.expressions.FormFault.{FormFault}
-use Rattle.machine_json.specs.declared.expressions.FormFault.TheVariants.{Unknown, Memory}
-use Rattle.machine_json.proofs.ExpressionLemmas.{SoFar, binary-reading, bool-means, connect-reading, exact-three, exact-two, if-reading, int-means, list-form, list-items, lit-reading, member-reading, null-means, object-form, object-place, or_else-reading, path-reading, reading-from_form, so_far-means, so_far-unknown, text-means, three-joined, two-joined, unary-reading}
+use Rattle.machine_json.specs.declared.expressions.FormFault.TheVariants.{Unknown}
+use Rattle.machine_json.proofs.ExpressionLemmas.{SoFar, bool-means, connect-reading, exact-three, exact-two, if-reading, int-means, list-form, list-items, lit-reading, member-reading, null-means, object-form, object-place, path-reading, reading-from_form, so_far-means, so_far-unknown, text-means, three-joined, two-joined, unary-reading}
 use Rattle.machine_json.proofs.MemberLemmas.{MapSoFar, list-means, map-fault, map-reading, map_so_far-means, map_so_far-unknown, only-none, only-one, operator-reading}
 use Rattle.machine_json.proofs.expressions.+read_form.Goals.{read_list-in-Ok+in_ok-map_err-in-Ok, read_list-in-Err-Unknown, read_map-in-Ok+in_ok-copy-in-Ok+in_ok-map_err-in-Ok, read_map-in-Err-Unknown, read_object-in_default-members-via-then-members-lt1, read_object-in_default-members-via-else-members-lt1+else-members-lt2}
 use Rattle.machine_json.proofs.expressions.+read_form.Goals as goal

@@ -1,12 +1,12 @@
-use Rattle.std.proofs.Common.{◌≡◌, ◌∙◌, Some, ap, refl, sym, map, length, ◌≤◌, ◌<◌, arith}
-use Rattle.std.specs.Prelude.{slice_get, option_map}
+use Rattle.std.proofs.Common.{◌∙◌, ap, refl, sym, map, length, arith}
+use Rattle.std.specs.Prelude.{option_map}
 use Rattle.std.proofs.lemmas.Option.{slice_get-map, slice_get_read}
 use Rattle.ordered_json.specs.Words.{member_parts}
 use Rattle.machine_json.specs.FirstPass.{HasFaultAs, HasMemberFault}
 use Rattle.std.proofs.lemmas.List.{length-map}
 use Rattle.machine_json.specs.Roles.{member_role}
 use Rattle.machine_json.proofs.FirstLemmas.{among_all, among_more}
-use Rattle.machine_json.proofs.PartLemmas.{of_key, of_list, of_member, of_object, of_scalar}
+use Rattle.machine_json.proofs.PartLemmas.{of_list, of_member, of_object, of_scalar}
 use Rattle.machine_json.proofs.first_pass.+first_pass.Goals as goal
 
 pub first_in_items-loop-item-preserved : goal.first_in_items-loop-item-preserved

@@ -1,4 +1,4 @@
-use Rattle.std.proofs.Common.{◌≡◌, Some, ap, sym, ◌∙◌}
+use Rattle.std.proofs.Common.{Some, ap, sym, ◌∙◌}
 use Rattle.machine_json.proofs.OwnLemmas.{reading_refused, reading_taken}
 use Rattle.machine_json.proofs.first_pass.form_fault.Goals as goal
 

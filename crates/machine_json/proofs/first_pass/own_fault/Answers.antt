@@ -1,4 +1,4 @@
-use Rattle.std.proofs.Common.{◌≡◌, Some, None, sym, ◌∙◌, List, Option, subst}
+use Rattle.std.proofs.Common.{sym, Option, subst}
 use Rattle.std.specs.Prelude.{Contains}
 use Rattle.machine_json.specs.declared.fault.MachineFault.{MachineFault}
 use Rattle.machine_json.specs.FirstPass.{TellsFirst, own_faults}

@@ -1,4 +1,4 @@
-use Rattle.std.proofs.Common.{◌≡◌, length, map, refl}
+use Rattle.std.proofs.Common.{length, map, refl}
 use Rattle.std.proofs.lemmas.Option.{slice_get_read}
 use Rattle.ordered_json.specs.Words.{member_parts}
 use Rattle.machine_json.proofs.InvocationLemmas.{one_more}

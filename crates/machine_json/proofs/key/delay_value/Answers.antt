@@ -1,4 +1,4 @@
-use Rattle.std.proofs.Common.{◌≡◌, ◌<◌, ◌≤◌, ◌+◌, ◌*◌, ◌-◌, ℕ, false, true, nat_le, refl, sym, arith}
+use Rattle.std.proofs.Common.{◌≡◌, false, nat_le, refl, sym, arith}
 use Rattle.ordered_json.specs.Meaning.{magnitude}
 use Rattle.machine_json.specs.declared.key.TheConstants.{MAX_DELAY}
 use Rattle.machine_json.proofs.KeyLemmas.{past}

@@ -1,11 +1,11 @@
-use Rattle.std.proofs.Common.{◌≡◌, ◌∙◌, ◌+◌, ◌<◌, ◌≤◌, ℕ, List, [], ◌∷◌, ◌++◌, None, Some, ap, refl, sym, map, length, take, subst, arith, length-append}
+use Rattle.std.proofs.Common.{◌≡◌, ◌∙◌, ◌+◌, ◌≤◌, ℕ, List, [], None, Some, ap, refl, sym, map, length, take, subst, arith, length-append}
 use Rattle.std.specs.Prelude.{codes}
 use Rattle.std.proofs.lemmas.List.{length-map, map-append, take_all}
-use Rattle.std.proofs.Common.{Bool, true, false, suc, add-one}
+use Rattle.std.proofs.Common.{true, false, add-one}
 use Rattle.std.specs.Str.{bytes_eq}
-use Rattle.ordered_json.specs.Words.{MemberParts, get, member_parts}
+use Rattle.ordered_json.specs.Words.{get, member_parts}
 use Rattle.machine_json.specs.NodeKinds.{children_of, members_of}
-use Rattle.machine_json.specs.Nodes.{AddsNodes, AreNodes, AreNodesBelow, NodeParts, node_parts}
+use Rattle.machine_json.specs.Nodes.{AddsNodes, AreNodes, AreNodesBelow, node_parts}
 use Rattle.machine_json.proofs.NodeLemmas.{adds_none, children_at, found_at, if_ok, no_children, not_found, of_children, part_at, take_next, with_child, with_node}
 use Rattle.machine_json.proofs.PartLemmas.{members-Object, no_members}
 use Rattle.machine_json.proofs.nodes.+nodes.Goals as goal

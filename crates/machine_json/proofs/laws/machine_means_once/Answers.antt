@@ -1,0 +1,8 @@
+use Rattle.machine_json.proofs.ReadingLemmas.{meaning_or_fault, one_answered}
+use Rattle.machine_json.proofs.laws.machine_means_once.Goals as goal
+
+pub returns : goal.returns
+returns c = record {
+  one_fault = one_answered;
+  never_both = meaning_or_fault;
+}
