@@ -1,3 +1,4 @@
+pub mod ChildLemmas
 pub mod EnteredLemmas
 pub mod EntryLemmas
 pub mod GoalLemmas

@@ -1,5 +1,5 @@
 -- What a microstep records for history nodes.
-use Rattle.std.specs.Prelude.{◌≡◌, ℕ, ◌<◌, length, All, List, [], Option, None, Some, map, Contains, IfSome, IsSomeAnd, slice_index_or}
+use Rattle.std.specs.Prelude.{◌≡◌, ℕ, ◌<◌, length, All, List, Option, Some, map, Contains, IsSomeAnd}
 use Rattle.std.specs.List.Sorted.{IsStrictlyIncreasing}
 use Rattle.node_tree.specs.declared.node.Kind.TheVariants.{Shallow, Deep}
 use Rattle.node_tree.specs.Nodes.{IsChild, IsBelow, AreNodes}
@@ -51,18 +51,9 @@ abbrev pub RecordsNodes : Nodes → History → Type 0
 RecordsNodes nodes history =
     All (λ (r : ℕ × List ℕ). (r.0 < length nodes) × AreNodes nodes r.1) history
 
--- the record at a place of a history, if there is a place
-abbrev pub record_at : History → Option ℕ → Option (List ℕ)
-record_at history None = None
-record_at history (Some place) = Some ((slice_index_or history place (0, [])).1)
-
--- the place, if there is one, is one of the history
-abbrev pub IsPlaceIn : History → Option ℕ → Type 0
-IsPlaceIn history place = IfSome place (λ p. p < length history)
-
--- for each node of the tree the place of its record
-pub record ArePlaces (nodes : Nodes) (history : History) (places : List (Option ℕ)) : Type 0 where
-  pub each : length places ≡ length nodes
-  pub inside : (n : ℕ) → n < length nodes → IsPlaceIn history (slice_index_or places n None)
-  pub tell : (n : ℕ) → n < length nodes
-      → record_of history n ≡ record_at history (slice_index_or places n None)
+-- one history beside another: these history nodes have what they remember recorded, and each other node
+-- what it had
+pub record AreRenewed (nodes : Nodes) (active : List ℕ) (Now : ℕ → Type 0) (old new : History) : Type 0 where
+  pub renewed : (h : ℕ) → Now h
+      → IsSomeAnd (record_of new h) (IsSetOf (IsRemembered nodes active h))
+  pub kept : (h : ℕ) → ¬ Now h → record_of new h ≡ record_of old h

@@ -1,22 +1,29 @@
 //! What a microstep records for history nodes.
 
-ghost use Rattle.std.specs.Prelude.{◌≡◌, ◌↔◌, ◌<◌, Contains, IfOk, IfSome, IsTrue, MatchOption, length};
+ghost use Rattle.std.specs.Prelude.{◌≡◌, ◌↔◌, ◌<◌, ℕ, IfOk, OnOk, IsTrue, length};
+ghost use Rattle.std.specs.List.Sorted.{IsStrictlyIncreasing};
 ghost use Rattle.node_tree.specs.Nodes.{AreNodes, IsBelow, IsChild};
 ghost use Rattle.step_sets.specs.Goals.{record_of};
-ghost use Rattle.step_sets.specs.History.{ArePlaces, CanBeRemembered, IsNewRecord, IsPlaceIn, IsRecordedNow, IsRemembered, RecordsNodes, RecordsHistory, record_at};
+ghost use Rattle.step_sets.specs.History.{AreRenewed, CanBeRemembered, IsRemembered, RecordsNodes, RecordsHistory, history_nodes};
 ghost use Rattle.node_tree.specs.Kinds.{IsHistory};
 ghost use Rattle.step_sets.specs.Sets.{IsSetOf};
 
+use crate::children::children;
 use crate::nodes::{is_history, is_leaf};
 use crate::runs::run_below;
 use node_tree::{Kind, NodeSet, Recorded, Targets, Tree};
 use std::alloc::{AllocError, Global};
+use std::collections::BTreeMap;
 use xs_data::Items;
+
+/// What is recorded, by its history nodes.
+type Records = BTreeMap<u32, Targets>;
 
 /// The recorded history after these nodes are left, as SCXML's `exitStates` records it: for each
 /// history node whose parent is left the active children of that parent, or for a deep one the active
-/// leaves below it. Every other record stays. It costs a pass over the tree, a copy of each record, and for
-/// each history node that is recorded a binary search and a look at each active node below its parent.
+/// leaves below it. Every other record stays. It costs a copy of each record, a look at each child of a node
+/// that is left, and for each history node that is recorded a binary search and a look at each active node
+/// below its parent.
 pub fn record_history(
     alloc: Global,
     tree: &Tree,
@@ -31,75 +38,68 @@ pub fn record_history(
         (record { active = active.now; exits = exits.now; recorded = old.now }) new) }
     ensures of_tree { IfOk result (λ new. RecordsNodes tree.now new) }
 {
-    let places = places_of_records(alloc, tree, old)?;
-    let mut records = Vec::new(alloc);
-    for node in 0..tree.len() {
-        let place = places[node as usize];
-        if let Some(nodes) = new_record(alloc, tree, active, exits, old, place, node)? {
-            records.push((node, nodes))?;
-        }
+    let mut records = copies(alloc, tree, old)?;
+    for parent in exits.as_slice() {
+        record_children(&mut records, alloc, tree, active, *parent)?;
     }
-    Ok(Items::from_vec(records))
+    in_document_order(alloc, records)
 }
 
-/// For each node of the tree the place of its record.
-fn places_of_records(
-    alloc: Global,
-    tree: &Tree,
-    history: &Recorded,
-) -> Result<Vec<Option<usize>>, AllocError>
+/// A copy of each record, by its history node.
+fn copies(alloc: Global, tree: &Tree, history: &Recorded) -> Result<Records, AllocError>
     requires { RecordsNodes tree.now history.now }
-    ensures { IfOk result (λ places. ArePlaces tree.now history.now places.items) }
+    ensures records { IfOk result
+        (λ records. (h : ℕ) → record_of records.entries h ≡ record_of history.now h) }
+    ensures of_tree { IfOk result (λ records. RecordsNodes tree.now records.entries) }
 {
-    let count = tree.len() as usize;
-    let records = history.as_slice();
-    let mut places = vec![in alloc; None; count]?;
-    for i in (0..records.len()).rev() {
-        let node = records[i].0 as usize;
-        places[node] = Some(i);
+    let _nodes = tree.len();
+    let list = history.as_slice();
+    let mut records = BTreeMap::new(alloc);
+    for i in (0..list.len()).rev() {
+        let record = &list[i];
+        let nodes = Vec::from_slice(alloc, record.1.as_slice())?;
+        records.insert(record.0, Items::from_vec(nodes))?;
     }
-    Ok(places)
+    Ok(records)
 }
 
-/// What is recorded for a node afterwards, where its old record stands at the given place.
-fn new_record(
+/// Records what each history node among the children of a node remembers, in the place of what was
+/// recorded for it.
+fn record_children(
+    records: &mut Records,
     alloc: Global,
     tree: &Tree,
     active: &NodeSet,
-    exits: &NodeSet,
-    old: &Recorded,
-    place: Option<usize>,
-    node: u32,
-) -> Result<Option<Targets>, AllocError>
+    parent: u32,
+) -> Result<(), AllocError>
     requires active { AreNodes tree.now active.now }
-    requires node { node < length tree.now }
-    requires place { IsPlaceIn old.now place }
-    requires at_place { record_of old.now node ≡ record_at old.now place }
-    requires old { RecordsNodes tree.now old.now }
-    ensures nodes { IfOk result (λ nodes. IsNewRecord tree.now
-        (record { active = active.now; exits = exits.now; recorded = old.now }) node nodes) }
-    ensures of_tree { IfOk result (λ nodes. IfSome nodes (λ list. AreNodes tree.now list)) }
+    requires parent { parent < length tree.now }
+    requires records { RecordsNodes tree.now records.old.entries }
+    ensures records { OnOk result (AreRenewed tree.now active.now
+        (λ h. IsHistory tree.now h × IsChild tree.now h parent)
+        records.old.entries records.new.entries) }
+    ensures of_tree { OnOk result (RecordsNodes tree.now records.new.entries) }
 {
-    match left_parent(tree, exits, node) {
-        Some(left) => Ok(Some(remembered(alloc, tree, active, node, left)?)),
-        None => copied(alloc, old, place),
+    for child in children(alloc, tree, parent)?.as_slice() {
+        if is_history(tree, *child) {
+            let nodes = remembered(alloc, tree, active, *child, parent)?;
+            records.insert(*child, nodes)?;
+        }
     }
+    Ok(())
 }
 
-/// The parent of a history node, if it is left.
-fn left_parent(tree: &Tree, exits: &NodeSet, node: u32) -> Option<u32>
-    requires { node < length tree.now }
-    ensures { MatchOption result (¬ IsRecordedNow tree.now exits.now node)
-        (λ p. (p < length tree.now) × IsHistory tree.now node
-        × IsChild tree.now node p × Contains exits.now p) }
+/// The records in document order.
+fn in_document_order(alloc: Global, mut records: Records) -> Result<Recorded, AllocError>
+    ensures records { IfOk result (λ list. list ≡ records.entries) }
+    ensures rising { IfOk result (λ list. IsStrictlyIncreasing (history_nodes list)) }
 {
-    if !is_history(tree, node) {
-        return None;
+    let _records = records.len();
+    let mut list = Vec::new(alloc);
+    while let Some(record) = records.pop_first() {
+        list.push(record)?;
     }
-    match tree.parent(node) {
-        Some(above) if exits.has(above) => Some(above),
-        _ => None,
-    }
+    Ok(Items::from_vec(list))
 }
 
 /// The active nodes that a history node remembers of its parent. It costs a binary search and a look at
@@ -148,20 +148,4 @@ fn is_child(tree: &Tree, node: u32, above: u32) -> bool
     ensures { IsTrue result ↔ IsChild tree.now node above }
 {
     tree.parent(node) == Some(above)
-}
-
-/// A copy of the record at a place, if there is one.
-fn copied(
-    alloc: Global,
-    history: &Recorded,
-    place: Option<usize>,
-) -> Result<Option<Targets>, AllocError>
-    requires { IsPlaceIn history.now place }
-    ensures { IfOk result (λ nodes. nodes ≡ record_at history.now place) }
-{
-    let Some(at) = place else {
-        return Ok(None);
-    };
-    let nodes = Vec::from_slice(alloc, history.as_slice()[at].1.as_slice())?;
-    Ok(Some(Items::from_vec(nodes)))
 }

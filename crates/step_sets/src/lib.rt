@@ -3,6 +3,7 @@
 //! exactly the set of a definition in `specs/`, and `laws` says what follows from the definitions.
 #![tactic(auto)]
 
+mod children;
 mod entries;
 mod exits;
 mod history;

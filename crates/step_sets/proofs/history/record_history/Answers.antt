@@ -1,33 +1,28 @@
-use Rattle.std.proofs.Common.{ℕ, List, ◌≡◌, ◌<◌, length, arith}
+use Rattle.std.proofs.Common.{◌≡◌, ◌∙◌, List, ℕ, get_or, sym, subst, take}
+use Rattle.std.proofs.lemmas.List.{take_all}
 use Rattle.step_sets.specs.Goals.{History}
-use Rattle.step_sets.specs.History.{Departure}
-use Rattle.step_sets.proofs.HistoryLemmas.{AreRecorded-push, AreRecorded-skip, AreRecorded-all}
+use Rattle.step_sets.specs.History.{AreRenewed, Departure, IsRecordedNow}
+use Rattle.step_sets.proofs.HistoryLemmas.{AreRenewed-then, decide_history_child, if_ok_both, recorded_more, renewed_all}
 use Rattle.step_sets.proofs.history.record_history.Goals as goal
-use Rattle.step_sets.proofs.history.record_history.Goals.{in-Some+in_ok-push, in_default}
 
-abbrev departure : List ℕ → List ℕ → History → Departure
-departure active exits old = record { active = active; exits = exits; recorded = old }
-
-pub loop-node-preserved : goal.loop-node-preserved
-loop-node-preserved c =
+pub loop-parent-preserved : goal.loop-parent-preserved
+loop-parent-preserved c =
     let nodes = c.args.tree.now in
-    let i = c.loop-node.node in
-    let records = c.loop-node.records.items in
-    let inside : i < length nodes = let before = c.loop-node-test.true in let count = c.len-node-end.ensures.count in omega arith in
-    elim c.match-branch-3.branch [
-      | in-Some+in_ok-push w ↦
-          rw (w.records-is, w.in_ok-push.ensures.items)
-          (AreRecorded-push nodes (departure c.args.active.now c.args.exits.now c.args.old.now) i w.in-Some.nodes records inside (rw w.in-Some.is at c.in_ok-nodes.ensures.of_tree) (rw (← w.in-Some.is) c.in_ok-nodes.ensures.nodes) c.loop-node.invariant)
-      | in_default w ↦
-          rw w.records-is
-          (AreRecorded-skip nodes (departure c.args.active.now c.args.exits.now c.args.old.now) i records (rw (← w.in_default.is) c.in_ok-nodes.ensures.nodes) c.loop-node.invariant)
-    ]
+    let exits = c.as_slice-parent-items.result.now in
+    let i = c.loop-parent.parent-index in
+    record {
+      renewed = AreRenewed-then nodes c.args.active.now c.args.old.now c.loop-parent.records.entries c.record_children.new.records.entries (decide_history_child nodes (get_or exits i 0)) (λ h. recorded_more nodes exits i h c.loop-parent-test.true) c.loop-parent.invariant.renewed c.in_ok-record_children.ensures.records;
+      named = c.in_ok-record_children.ensures.of_tree;
+    }
 
 pub returns-clause-history : goal.returns-clause-history
 returns-clause-history c =
-    let all : length c.args.tree.now ≡ c.loop-node.node = let end = c.loop-node-test.false in let within = c.loop-node.auto.node-end in let count = c.len-node-end.ensures.count in omega arith in
-    rw c.from_vec.ensures
-    (AreRecorded-all c.args.tree.now (departure c.args.active.now c.args.exits.now c.args.old.now) c.loop-node.node c.loop-node.records.items all c.requires.old c.loop-node.invariant)
-
-pub returns-clause-of_tree : goal.returns-clause-of_tree
-returns-clause-of_tree c = rw c.from_vec.ensures c.loop-node.invariant.named
+    let nodes = c.args.tree.now in
+    let departure : Departure = record { active = c.args.active.now; exits = c.args.exits.now; recorded = c.args.old.now } in
+    let exits = c.as_slice-parent-items.result.now in
+    let all : take c.loop-parent.parent-index exits ≡ c.args.exits.now = take_all c.loop-parent.parent-index exits c.loop-parent-test.false ∙ c.as_slice-parent-items.ensures.nodes in
+    let P : List ℕ → Type 0 = λ xs. AreRenewed nodes c.args.active.now (IsRecordedNow nodes xs) c.args.old.now c.loop-parent.records.entries in
+    let renewed = subst P all c.loop-parent.invariant.renewed in
+    if_ok_both c.in_document_order.result c.in_document_order.ensures.records c.in_document_order.ensures.rising
+    (λ new same rising. let Q : History → Type 0 = λ x. AreRenewed nodes c.args.active.now (IsRecordedNow nodes c.args.exits.now) c.args.old.now x in
+    renewed_all nodes departure new rising (subst Q (sym same) renewed))
