@@ -1,10 +1,11 @@
 -- Which definitions are well formed: those that linking gives, and that each step is taken in.
-use Rattle.std.specs.Prelude.{◌≡◌, ◌<◌, ℕ, List, [], ◌++◌, Option, Some, length, slice_get, All, IfSome, IsSomeAnd, ⊤}
+use Rattle.std.specs.Prelude.{◌≡◌, ◌<◌, ℕ, List, [], ◌++◌, Option, Some, length, slice_get, All, IfSome, IsSomeAnd, codes, ⊤}
 use Rattle.std.specs.Option.{option_map}
 use Rattle.xs_model.specs.declared.action.Action.{Action}
 use Rattle.xs_model.specs.declared.action.Action.TheFolds.{every-Action}
 use Rattle.xs_model.specs.declared.action.Action.TheOpen.{Action-F, ActionItem-F}
 use Rattle.xs_model.specs.declared.action.ActionItem.{ActionItem}
+use Rattle.xs_model.specs.declared.expr.Expr.{Expr}
 use Rattle.node_tree.specs.declared.node.Kind.{Kind}
 use Rattle.node_tree.specs.declared.node.Kind.TheVariants.{Atomic, Compound, Parallel, Final, Shallow, Deep}
 use Rattle.node_tree.specs.declared.node.Node.{Node}
@@ -99,6 +100,16 @@ abbrev pub EachTransition : Def → (ℕ → Transition → Type 0) → Type 0
 EachTransition def IsSo =
     (n : ℕ) (node : NodeDef) → IsSaidOf def n node → All (IsSo n) (transitions_of node)
 
+-- ---- delays
+
+-- a type of the events that delays make
+abbrev pub IsAfterType : List ℕ → Type 0
+IsAfterType type = (rest : List ℕ) × (type ≡ codes "xstate.after." ++ rest)
+
+-- each delay of a node makes an event of such a type
+abbrev pub HasAfterTypes : NodeDef → Type 0
+HasAfterTypes node = All (λ (delay : List ℕ × Expr). IsAfterType delay.0) node.after
+
 -- ---- well-formed definitions
 
 -- a definition that is well formed beside a table of so many actors
@@ -128,5 +139,7 @@ pub record IsWellFormed (actors : ℕ) (def : Def) : Type 0 where
   -- final and history nodes have no transitions
   pub passive : (n : ℕ) (node : NodeDef) → IsSaidOf def n node
       → IsSomeAnd (kind_of def.tree n) IsPassiveKind → transitions_of node ≡ []
+  -- the events of delays have types that are theirs alone
+  pub after : All HasAfterTypes def.nodes
   -- no two targets of a transition clash
   pub targets : EachTransition def (λ n transition. DoNotClash def.tree transition.targets)

@@ -15,6 +15,7 @@ pub mod Meaning
 pub mod NodeKinds
 pub mod Nodes
 pub mod Reached
+pub mod ReadMachine
 pub mod Roles
 pub mod Rows
 pub mod SecondPass
