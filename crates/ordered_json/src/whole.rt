@@ -2,6 +2,7 @@
 ghost use Rattle.std.specs.Prelude.{◌≡◌, ◌≢◌, IfErr, IfOk, Ok};
 ghost use Rattle.ordered_json.specs.Faults.{HasFault};
 ghost use Rattle.ordered_json.specs.Meaning.{Means, IsMeaningless};
+ghost use Rattle.ordered_json.specs.OwnKeys.{HasOwnKeys};
 ghost use Rattle.ordered_json.specs.Steps as steps;
 
 use crate::reader::Reader;
@@ -14,6 +15,7 @@ use std::alloc::Global;
 /// text, but for the look-up of each key among those of its object.
 pub fn read(alloc: Global, text: &[u8]) -> Result<OrderedJson, JsonFault>
     ensures ok { IfOk result (λ json. Means text.now json) }
+    ensures own_keys { IfOk result HasOwnKeys }
     ensures fault { IfErr result (λ fault. HasFault text.now fault) }
     ensures refused { IfErr result (λ fault. fault ≢ JsonFault.Memory → IsMeaningless text.now) }
 {
