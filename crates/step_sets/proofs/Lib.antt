@@ -1,12 +1,12 @@
+pub mod CandidateLemmas
 pub mod ChildLemmas
 pub mod EnteredLemmas
-pub mod EntryLemmas
 pub mod GoalLemmas
 pub mod HistoryLemmas
 pub mod LawLemmas
 pub mod ListLemmas
-pub mod MarkLemmas
 pub mod NextLemmas
+pub mod PathLemmas
 pub mod PreemptionLemmas
 pub mod RememberedLemmas
 pub mod RunLemmas

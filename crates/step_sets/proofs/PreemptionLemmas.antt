@@ -10,10 +10,10 @@ use Rattle.step_sets.specs.Preemption.{IsPreempted, HasTaken, IsApart, TakesAll}
 use Rattle.step_sets.proofs.SetLemmas.{front_more}
 
 -- a number compares `Equal` to itself alone
-is_at_same : (x n : ℕ) → x ≡ n → is_at (nat_cmp x) n ≡ true
+pub is_at_same : (x n : ℕ) → x ≡ n → is_at (nat_cmp x) n ≡ true
 is_at_same x n e = grind (arith, nat_tests)
 
-is_at_other : (x n : ℕ) → (x ≡ n → ⊥) → is_at (nat_cmp x) n ≡ false
+pub is_at_other : (x n : ℕ) → (x ≡ n → ⊥) → is_at (nat_cmp x) n ≡ false
 is_at_other x n e = grind (arith, nat_tests)
 
 -- a set after an insert

@@ -1,3 +1,4 @@
+pub mod Candidates
 pub mod Configuration
 pub mod Domains
 pub mod Entries
@@ -5,7 +6,6 @@ pub mod Exits
 pub mod Goals
 pub mod History
 pub mod Laws
-pub mod Marks
 pub mod Preemption
 pub mod Sets
 pub mod Statechart

@@ -8,7 +8,6 @@ mod entries;
 mod exits;
 mod history;
 pub mod laws;
-mod marks;
 mod nodes;
 mod preemption;
 mod runs;

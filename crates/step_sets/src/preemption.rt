@@ -51,7 +51,7 @@ fn meets(nodes: &[u32], taken: &BTreeSet<u32>) -> bool
 }
 
 /// Takes the nodes.
-fn take_all(taken: &mut BTreeSet<u32>, nodes: &[u32]) -> Result<(), AllocError>
+pub(crate) fn take_all(taken: &mut BTreeSet<u32>, nodes: &[u32]) -> Result<(), AllocError>
     ensures { OnOk result
         (TakesAll nodes.now (contains nat_cmp taken.old) (contains nat_cmp taken.new)) }
 {

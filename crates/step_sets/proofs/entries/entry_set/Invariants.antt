@@ -1,12 +1,13 @@
-use Rattle.std.proofs.Common.{length}
-use Rattle.step_sets.specs.Marks.{AreMarks}
-use Rattle.step_sets.specs.Sets.{IsSetOf}
-use Rattle.step_sets.proofs.EntryLemmas.{IsOpenSoFar, IsEnteredSoFar}
+use Rattle.std.proofs.Common.{ℕ, ◌-◌, length, get_or}
+use Rattle.std.specs.BTreeSet.{contains}
+use Rattle.std.specs.Ordering.{nat_cmp}
+use Rattle.step_sets.proofs.CandidateLemmas.{IsDone}
 use Rattle.step_sets.proofs.entries.entry_set.Given as goal
 
--- what is entered of the nodes so far is marked and listed
+-- all is done before some node, and each candidate from there on is pending
 abbrev pub invariant-loop-node : goal.invariant-loop-node
-invariant-loop-node l = record {
-  opened : AreMarks (IsOpenSoFar l.tree l.goals l.domain l.node) (length l.tree) l.opened.items;
-  entered : IsSetOf (IsEnteredSoFar l.tree l.goals l.domain l.node) l.entries.items;
-}
+invariant-loop-node l = (bound : ℕ) × IsDone l.tree l.goals l.domain bound (contains nat_cmp l.pending) l.entries.items
+
+-- the first candidate rises
+abbrev pub decreases-loop-node : goal.decreases-loop-node
+decreases-loop-node l = length l.tree - get_or l.pending.keys 0 (length l.tree)
