@@ -101,7 +101,7 @@ role_by_test field root kind false is known =
     let none : is_none (standing_role root kind field) ≡ true = rw is refl in
     let both : true ≡ false = sym none ∙ known in absurd (cc)
 
-by_parent : (parent : Option ℕ) (kind : NodeKind) (key : List ℕ)
+pub by_parent : (parent : Option ℕ) (kind : NodeKind) (key : List ℕ)
     → member_role (option_map_or (λ (p : ℕ). role.State) parent role.Root) kind key ≡ node_field (is_none parent) kind key
 by_parent None kind key = refl
 by_parent (Some p) kind key = refl

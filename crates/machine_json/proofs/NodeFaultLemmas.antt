@@ -16,7 +16,7 @@ use Rattle.machine_json.specs.declared.kind_word.NodeKind.TheVariants.{Compound}
 use Rattle.machine_json.specs.declared.role.Role.{Role}
 use Rattle.machine_json.specs.declared.role.Role.TheVariants as role
 use Rattle.machine_json.specs.Fields.{is_inner}
-use Rattle.machine_json.specs.FirstPass.{HasFaultAs, fault_if, initial_faults, initial_text_faults, is_initial_child, names_initial, node_faults, own_faults, value_faults}
+use Rattle.machine_json.specs.FirstPass.{HasFaultAs, fault_if, initial_faults, initial_text_faults, is_history_child, is_initial_child, names_initial, node_faults, own_faults, value_faults}
 use Rattle.machine_json.specs.FirstPass.HasFaultAs.{own, at_key, in_member}
 use Rattle.machine_json.specs.NodeKinds.{children_of, members_of, node_kind}
 use Rattle.machine_json.specs.Nodes.{AreNodes, AreNodesBelow, NodeParts, more, node, none}
@@ -73,7 +73,7 @@ key_faultless r json key value clean is has =
     (fault_if (not (takes_key r found.1.key)) (BadKind found.1.key_place)) fault one))
 
 -- the role of a node with a parent, or without
-abbrev role_below : Option ℕ → Role
+abbrev pub role_below : Option ℕ → Role
 role_below parent = option_map_or (λ (n : ℕ). role.State) parent role.Root
 
 -- a test that is one thing or the other
@@ -129,7 +129,7 @@ mutual
 -- ---- the initial child
 
 -- a node has no fault of its own
-own_faultless : (parent : Option ℕ) (json : OrderedJson) (fault : MachineFault) → HasNoFaultAs (role_below parent) json
+pub own_faultless : (parent : Option ℕ) (json : OrderedJson) (fault : MachineFault) → HasNoFaultAs (role_below parent) json
     → Contains (own_faults (role_below parent) json) fault → ⊥
 own_faultless None json fault clean has = clean fault (own role.Root json fault has)
 own_faultless (Some n) json fault clean has = clean fault (own role.State json fault has)
@@ -215,9 +215,19 @@ and_left : (a b : Bool) → (a && b) ≡ true → a ≡ true
 and_left true b is = refl
 and_left false b is = is
 
--- the child that has the key
+and_right : (a b : Bool) → (a && b) ≡ true → b ≡ true
+and_right true b is = is
+and_right false b is = cc
+
+not_true : (b : Bool) → not b ≡ true → b ≡ false
+not_true true is = cc
+not_true false is = refl
+
+-- the child that has the key, which is no history node
 pub initial_member : (children : List MemberParts) (key : List ℕ) → names_initial children key ≡ true
-    → (i : ℕ) × (c : MemberParts) × (slice_get children i ≡ Some c) × (c.key ≡ key)
+    → (i : ℕ) × (c : MemberParts) × (slice_get children i ≡ Some c) × (c.key ≡ key) × (is_history_child c ≡ false)
 initial_member children key is =
     let found = any_at (is_initial_child key) children is in
-    (found.0, found.1, found.2, (bytes_eq-Decides found.1.key key).0 (and_left (bytes_eq found.1.key key) _ found.3))
+    let same = and_left (bytes_eq found.1.key key) _ found.3 in
+    let other = and_right (bytes_eq found.1.key key) (not (is_history_child found.1)) found.3 in
+    (found.0, found.1, found.2, (bytes_eq-Decides found.1.key key).0 same, not_true (is_history_child found.1) other)

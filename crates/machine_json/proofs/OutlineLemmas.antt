@@ -56,15 +56,24 @@ and_first : (a b : Bool) → (a && b) ≡ true → a ≡ true
 and_first true b is = refl
 and_first false b is = is
 
+and_second : (a b : Bool) → (a && b) ≡ true → b ≡ true
+and_second true b is = is
+and_second false b is = cc
+
 -- a parent that is told equal is the one
 parent_same : (parent : Option ℕ) (n : ℕ) → option_eq nat_eq parent (Some n) ≡ true → parent ≡ Some n
 parent_same None n is = absurd (cc)
 parent_same (Some m) n is = ap Some ((Decides-eqb m n).0 is)
 
--- the initial child of a compound node is a child of it
-initial_is_child : (nodes : List NodeParts) (n : ℕ) (x : NodeParts) → AreFaultlessAtFirst nodes → slice_get nodes n ≡ Some x → node_kind x.json ≡ Compound
-    → IsChild (open_rows nodes) (initial_number nodes n x) n
-initial_is_child nodes n x faultless at compound =
+-- the first node of a parent with the key
+abbrev pub IsInitialOf : List NodeParts → ℕ → NodeParts → Type 0
+IsInitialOf nodes n x =
+    (it : NodeParts) × (slice_get nodes (initial_number nodes n x) ≡ Some it) × (it.parent ≡ Some n) × (it.key ≡ initial_key x)
+
+-- a compound node has a child with the key of its initial one
+pub initial_there : (nodes : List NodeParts) (n : ℕ) (x : NodeParts) → AreFaultlessAtFirst nodes → slice_get nodes n ≡ Some x → node_kind x.json ≡ Compound
+    → IsInitialOf nodes n x
+initial_there nodes n x faultless at compound =
     let clean : HasNoFaultAs (node_role x) x.json = node_faultless 0 None [] faultless.text nodes faultless.are_nodes (λ f there. faultless.first_pass f (inl there)) n x at in
     let named = names_child x compound clean in
     let key = named.0 in
@@ -77,9 +86,17 @@ initial_is_child nodes n x faultless at compound =
     let key_same : bytes_eq member.1.key (initial_key x) ≡ true = (bytes_eq-Decides member.1.key (initial_key x)).1 (member.3 ∙ sym wanted) in
     let passing : passes it ≡ true = ap (λ (b : Bool). b && bytes_eq member.1.key (initial_key x)) {y = true} same ∙ key_same in
     let found = found_passing passes nodes (position passes nodes) there.0 it refl there.1 passing in
-    let number : initial_number nodes n x ≡ found.0 = ap (λ (o : Option ℕ). unwrap_or o 0) found.2 in
+    let number : initial_number nodes n x ≡ found.0 = ap (λ (o : Option ℕ). unwrap_or o 0) {y = Some found.0} found.2 in
     let up : found.1.parent ≡ Some n = parent_same found.1.parent n (and_first (option_eq nat_eq found.1.parent (Some n)) (bytes_eq found.1.key (initial_key x)) found.4) in
-    ap (parent_of (open_rows nodes)) number ∙ row_parent nodes found.0 found.1 found.3 ∙ up
+    let own = and_second (option_eq nat_eq found.1.parent (Some n)) (bytes_eq found.1.key (initial_key x)) found.4 in
+    (found.1, ap (slice_get nodes) number ∙ found.3, up, (bytes_eq-Decides found.1.key (initial_key x)).0 own)
+
+-- the initial child of a compound node is a child of it
+initial_is_child : (nodes : List NodeParts) (n : ℕ) (x : NodeParts) → AreFaultlessAtFirst nodes → slice_get nodes n ≡ Some x → node_kind x.json ≡ Compound
+    → IsChild (open_rows nodes) (initial_number nodes n x) n
+initial_is_child nodes n x faultless at compound =
+    let found = initial_there nodes n x faultless at compound in
+    row_parent nodes (initial_number nodes n x) found.0 found.1 ∙ found.2
 
 -- ---- rows in their places
 

@@ -214,12 +214,12 @@ child_added rows source child json members done error snapshot a b c d same is_d
     (moved rows source error error_type (codes "onError") members all b c is_error same second (of_key rows source role.Invocation role.Transitions json (codes "onError") refl refl sound)))
     (moved rows source snapshot snapshot_type (codes "onSnapshot") members all c d is_snapshot same third (of_key rows source role.Invocation role.Transitions json (codes "onSnapshot") refl refl sound))
 
-under_object : (rows : List Node) (source : ℕ) (whole : Role) (object : Option OrderedJson) → ((kind : NodeKind) (key : List ℕ) → member_role whole kind key ≡ Some role.Transitions)
+pub under_object : (rows : List Node) (source : ℕ) (whole : Role) (object : Option OrderedJson) → ((kind : NodeKind) (key : List ℕ) → member_role whole kind key ≡ Some role.Transitions)
     → IfSome object (IsFaultlessAs rows source whole) → AreFaultlessUnder rows source role.Transitions (unwrap_or (option_and_then as_object object) [])
 under_object rows source whole None has sound = λ k member at. absurd (cc)
 under_object rows source whole (Some json) has sound = λ k member at. of_member_at rows source whole role.Transitions json k member sound at (has (node_kind json) member.key) refl
 
-of_texts : (rows : List Node) (source : ℕ) (invoke : Option OrderedJson) → IfSome invoke (IsFaultlessAs rows source role.Invocations)
+pub of_texts : (rows : List Node) (source : ℕ) (invoke : Option OrderedJson) → IfSome invoke (IsFaultlessAs rows source role.Invocations)
     → AreFaultlessAs rows source role.Invocation (option_map_or listed invoke [])
 of_texts rows source None sound = λ k json at. absurd (cc)
 of_texts rows source (Some invoke) sound = λ k json at. of_invocations rows source invoke json k sound at

@@ -32,8 +32,10 @@ pub record PassesAnswerOnce : Type 0 where
   pub second_pass : (text : OrderedJson) (fault other : MachineFault)
       → IsFirstFault (HasSecondPassFault text) fault → IsFirstFault (HasSecondPassFault text) other → fault ≡ other
 
--- one fault alone is answered of a machine text, and none of a text that means a machine
+-- a machine text means one machine at most, one fault alone is answered of it, and never both
 pub record MachineMeansOnce : Type 0 where
+  pub one_machine : (text : OrderedJson) (machine other : Machine)
+      → MeansMachine text machine → MeansMachine text other → machine ≡ other
   pub one_fault : (text : OrderedJson) (fault other : MachineFault)
       → IsAnsweredFault text fault → IsAnsweredFault text other → fault ≡ other
   pub never_both : (text : OrderedJson) (machine : Machine) (fault : MachineFault)

@@ -13,7 +13,7 @@ pub fn passes_answer_once()
     ensures { PassesAnswerOnce }
 {}
 
-/// One fault alone is answered of a machine text, and none of a text that means a machine.
+/// A machine text means one machine at most, one fault alone is answered of it, and never both.
 pub fn machine_means_once()
     ensures { MachineMeansOnce }
 {}

@@ -1,6 +1,7 @@
 //! A machine text as a whole.
 
 ghost use Rattle.std.specs.Prelude.{◌≡◌, ◌≢◌, ℕ, [], None, Some, IfErr, IfOk, codes, length, map, slice_get};
+ghost use Rattle.ordered_json.specs.OwnKeys.{HasOwnKeys};
 ghost use Rattle.ordered_json.specs.Words.{get, member_parts};
 ghost use Rattle.xs_model.specs.declared.expr.Expr.TheVariants as expression;
 ghost use Rattle.machine_json.specs.declared.fault.MachineFault.{MachineFault};
@@ -9,6 +10,7 @@ ghost use Rattle.machine_json.specs.Faultless.{AreFaultless};
 ghost use Rattle.machine_json.specs.Machines.{IsAnsweredFault, MeansMachine, MeansNode};
 ghost use Rattle.machine_json.specs.Meaning.{MeansExprOr};
 ghost use Rattle.machine_json.specs.Nodes.{AreNodes, HasFirstPassFault, NodeParts, node_parts};
+ghost use Rattle.machine_json.specs.ReadMachine.{IsReadMachine};
 ghost use Rattle.machine_json.specs.Rows.{open_rows};
 ghost use Rattle.machine_json.specs.SecondPass.{HasSecondPassFault};
 
@@ -36,6 +38,7 @@ use xs_model::Expr;
 /// below it.
 pub fn read_machine(alloc: Global, text: &OrderedJson) -> Result<Machine, MachineFault>
     ensures ok { IfOk result (λ machine. MeansMachine text.now machine) }
+    ensures linkable { HasOwnKeys text.now → IfOk result IsReadMachine }
     ensures fault { IfErr result
         (λ fault. fault ≢ MachineFault.Memory → IsAnsweredFault text.now fault) }
 {

@@ -2,8 +2,12 @@ use Rattle.std.proofs.Common.{List, None, [], map, subst, sym}
 use Rattle.machine_json.specs.declared.nodes.NodeText.{NodeText}
 use Rattle.machine_json.specs.Nodes.{AreNodes, node_parts}
 use Rattle.machine_json.specs.SecondPass.{HasSecondPassFault}
+use Rattle.machine_json.proofs.ReadMachineLemmas.{is_read}
 use Rattle.machine_json.proofs.ReadingLemmas.{none_found, of_nodes, second_answered}
 use Rattle.machine_json.proofs.reading.read_machine.Goals as goal
+
+pub returns-clause-linkable : goal.returns-clause-linkable
+returns-clause-linkable c own = is_read c.args.text.now c.in_ok-machine.machine c.in_ok-machine.ensures own
 
 pub returns-in-Some-2-clause-fault : goal.returns-in-Some-2-clause-fault
 returns-in-Some-2-clause-fault c not_memory =
