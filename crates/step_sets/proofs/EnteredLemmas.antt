@@ -10,7 +10,7 @@ use Rattle.step_sets.specs.Domains.{IsUnder}
 use Rattle.step_sets.specs.Entries.{HasGoalBelow, IsEntered, LeadsToGoal, Opens, towards_goal, region, initial, root, as_domain, as_entered}
 use Rattle.node_tree.specs.Kinds.{kind_of, IsHistory}
 use Rattle.step_sets.specs.Statechart.{IsStatechart}
-use Rattle.step_sets.proofs.CandidateLemmas.{under_inside}
+use Rattle.step_sets.proofs.ProspectLemmas.{under_inside}
 use Rattle.step_sets.proofs.GoalLemmas.{AreCoherent, parent_not_history}
 use Rattle.step_sets.proofs.ListLemmas.{decide_any}
 use Rattle.step_sets.proofs.TreeLemmas.{above_parent, child_inside, child_towards, decide_below, initial_child, one_parent, parent_inside, root_no_child, within_parent}

@@ -1,4 +1,3 @@
-pub mod CandidateLemmas
 pub mod ChildLemmas
 pub mod EnteredLemmas
 pub mod GoalLemmas
@@ -8,6 +7,7 @@ pub mod ListLemmas
 pub mod NextLemmas
 pub mod PathLemmas
 pub mod PreemptionLemmas
+pub mod ProspectLemmas
 pub mod RememberedLemmas
 pub mod RunLemmas
 pub mod SetLemmas

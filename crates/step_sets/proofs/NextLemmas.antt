@@ -18,7 +18,7 @@ use Rattle.node_tree.specs.Kinds.{kind_of, IsHistory}
 use Rattle.step_sets.specs.Laws.{IsEnabled, IsNextConfiguration, LeaveApart, TakenTransition}
 use Rattle.step_sets.specs.Statechart.{IsFitHistory, IsParentKind, IsStatechart}
 use Rattle.step_sets.proofs.EnteredLemmas.{entered_inside, entered_not_history, entered_under, enters_one, enters_regions, parent_opens, under_domain, under_down, under_up}
-use Rattle.step_sets.proofs.CandidateLemmas.{under_inside}
+use Rattle.step_sets.proofs.ProspectLemmas.{under_inside}
 use Rattle.step_sets.proofs.GoalLemmas.{AreCoherent, above_member, goals_coherent, no_goals_coherent}
 use Rattle.step_sets.proofs.ListLemmas.{decide_any, same_or_related}
 use Rattle.step_sets.proofs.TreeLemmas.{below_itself, below_trans, below_within, child_towards, comparable, root_not_below}

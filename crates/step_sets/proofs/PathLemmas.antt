@@ -9,7 +9,7 @@ use Rattle.node_tree.specs.declared.node.Kind.TheVariants.{Compound}
 use Rattle.node_tree.specs.Kinds.{kind_of}
 use Rattle.node_tree.specs.declared.node.Node.{Node}
 use Rattle.node_tree.specs.Nodes.{IsBelow, IsChild, IsTree, IsWithin, child, further, parent_of}
-use Rattle.step_sets.specs.Candidates.{EntersFrom, HasBelow, HasParents}
+use Rattle.step_sets.specs.Prospects.{EntersFrom, HasBelow, HasParents}
 use Rattle.step_sets.specs.Entries.{LeadsToGoal}
 use Rattle.step_sets.proofs.SetLemmas.{front_more}
 use Rattle.step_sets.proofs.TreeLemmas.{above_child, initial_child, parent_inside, parent_less, within_parent}

@@ -1,4 +1,3 @@
-pub mod Candidates
 pub mod Configuration
 pub mod Domains
 pub mod Entries
@@ -7,6 +6,7 @@ pub mod Goals
 pub mod History
 pub mod Laws
 pub mod Preemption
+pub mod Prospects
 pub mod Sets
 pub mod Statechart
 pub use Rattle.node_tree.specs.Kinds

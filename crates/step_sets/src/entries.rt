@@ -4,9 +4,9 @@ ghost use Rattle.std.specs.Prelude.{◌≡◌, ◌↔◌, ◌<◌, ◌⊎◌, �
 ghost use Rattle.std.specs.BTreeSet.{contains};
 ghost use Rattle.std.specs.Ordering.{nat_cmp};
 ghost use Rattle.node_tree.specs.Nodes.{AreNodes, IsWithin};
-ghost use Rattle.step_sets.specs.Candidates.{CanBeEnteredOrWhole, EntersFrom, HasBelow, HasParents, start_of};
 ghost use Rattle.step_sets.specs.Domains.{IsDomainOf, IsUnder};
 ghost use Rattle.step_sets.specs.Entries.{CanBeEntered, IsEntered, LeadsToGoal};
+ghost use Rattle.step_sets.specs.Prospects.{CanBeEnteredOrWhole, EntersFrom, HasBelow, HasParents, top_of};
 ghost use Rattle.step_sets.specs.Sets.{IsSetOf};
 
 use crate::Domain;
@@ -35,7 +35,7 @@ pub fn entry_set(
     ensures of_tree { IfOk result (λ entries. AreNodes tree.now entries) }
 {
     let _nodes = tree.len();
-    let mut pending = first_candidates(alloc, tree, goals, domain)?;
+    let mut pending = first_prospects(alloc, tree, goals, domain)?;
     let mut entries = Vec::new(alloc);
     while let Some(node) = pending.pop_first() {
         if is_entered(tree, domain, node) {
@@ -48,8 +48,9 @@ pub fn entry_set(
     Ok(NodeSet::from_rising(Items::from_vec(entries)))
 }
 
-/// The nodes to begin with: those that lead to a goal, and the domain, or the root for the whole tree.
-fn first_candidates(
+/// The prospects to begin with, which may be entered: the nodes that lead to a goal, and the domain,
+/// or the root for the whole tree.
+fn first_prospects(
     alloc: Global,
     tree: &Tree,
     goals: &[u32],
@@ -57,14 +58,14 @@ fn first_candidates(
 ) -> Result<BTreeSet<u32>, AllocError>
     requires { AreNodes tree.now goals.now }
     ensures { IfOk result (λ nodes. (n : ℕ) → IsTrue (contains nat_cmp nodes n)
-        ↔ (LeadsToGoal tree.now goals.now n ⊎ (n ≡ start_of domain))) }
+        ↔ (LeadsToGoal tree.now goals.now n ⊎ (n ≡ top_of domain))) }
 {
     let _nodes = tree.len();
     let mut nodes = BTreeSet::new(alloc);
     for goal in goals {
         add_path(&mut nodes, tree, *goal)?;
     }
-    nodes.insert(start(domain))?;
+    nodes.insert(top_of(domain))?;
     Ok(nodes)
 }
 
@@ -87,8 +88,8 @@ fn add_path(nodes: &mut BTreeSet<u32>, tree: &Tree, low: u32) -> Result<(), Allo
 }
 
 /// Where the walk down begins.
-fn start(domain: Domain) -> u32
-    ensures { result ≡ start_of domain }
+fn top_of(domain: Domain) -> u32
+    ensures { result ≡ top_of domain }
 {
     match domain {
         Domain::Node(node) => node,
@@ -154,7 +155,7 @@ fn has_below(tree: &Tree, nodes: &BTreeSet<u32>, high: u32) -> bool
     }
 }
 
-/// Whether a candidate is entered.
+/// Whether a prospect is entered. Each that can be is.
 fn is_entered(tree: &Tree, domain: Domain, node: u32) -> bool
     requires node { node < length tree.now }
     requires domain { IsDomainOf tree.now domain }

@@ -21,9 +21,9 @@ type Records = BTreeMap<u32, Targets>;
 
 /// The recorded history after these nodes are left, as SCXML's `exitStates` records it: for each
 /// history node whose parent is left the active children of that parent, or for a deep one the active
-/// leaves below it. Every other record stays. It costs a copy of each record, a look at each child of a node
-/// that is left, and for each history node that is recorded a binary search and a look at each active node
-/// below its parent.
+/// leaves below it. Every other record stays. It costs a copy of each record, a look at each child
+/// of a node that is left, and for each history node that is recorded a binary search and a look at
+/// each active node below its parent.
 pub fn record_history(
     alloc: Global,
     tree: &Tree,
@@ -102,8 +102,8 @@ fn in_document_order(alloc: Global, mut records: Records) -> Result<Recorded, Al
     Ok(Items::from_vec(list))
 }
 
-/// The active nodes that a history node remembers of its parent. It costs a binary search and a look at
-/// each active node below the parent.
+/// The active nodes that a history node remembers of its parent. It costs a binary search and a look
+/// at each active node below the parent.
 fn remembered(
     alloc: Global,
     tree: &Tree,

@@ -2,7 +2,7 @@ use Rattle.std.proofs.Common.{◌<◌, ◌+◌, length, arith}
 use Rattle.std.specs.BTreeSet.{contains}
 use Rattle.std.specs.Ordering.{nat_cmp}
 use Rattle.step_sets.specs.Entries.{IsEntered}
-use Rattle.step_sets.proofs.CandidateLemmas.{all_done, can_be_entered, done_domain, done_entered, done_shut, entered_inside, first_inside, first_of, first_rises, no_keys, nothing_done, pending_inside, rest_inside}
+use Rattle.step_sets.proofs.ProspectLemmas.{all_done, can_be_entered, done_domain, done_entered, done_shut, entered_inside, first_inside, first_of, first_rises, no_keys, nothing_done, pending_inside, rest_inside}
 use Rattle.step_sets.proofs.SetLemmas.{All-from_set}
 use Rattle.step_sets.proofs.entries.entry_set.Goals as goal
 

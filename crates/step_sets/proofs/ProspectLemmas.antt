@@ -1,4 +1,4 @@
--- How a walk over the candidates, each time at the first of them, finds the nodes that are entered.
+-- How a walk over the prospects, each time at the first of them, finds the nodes that are entered.
 use Rattle.std.proofs.Common.{cond, false, ◌≡◌, ◌≢◌, ◌↔◌, ◌<◌, ◌≤◌, ◌+◌, ◌-◌, ◌⊎◌, ℕ, suc, Bool, List, [], ◌∷◌, ◌++◌, length, get_or, Some, arith, inl, inr, sym, refl, subst, IsTrue}
 use Rattle.std.proofs.lemmas.Bool.{cases_eq, cases_lt}
 use Rattle.std.proofs.lemmas.List.Elements.{All-contains}
@@ -9,7 +9,7 @@ use Rattle.node_tree.specs.declared.node.Kind.TheVariants.{Compound, Parallel}
 use Rattle.node_tree.specs.declared.node.Node.{Node as NodeRow}
 use Rattle.node_tree.specs.Kinds.{kind_of}
 use Rattle.node_tree.specs.Nodes.{AreNodes, IsBelow, IsChild, IsTree, child}
-use Rattle.step_sets.specs.Candidates.{CanBeEnteredOrWhole, EntersFrom, HasBelow, start_of}
+use Rattle.step_sets.specs.Prospects.{CanBeEnteredOrWhole, EntersFrom, HasBelow, top_of}
 use Rattle.step_sets.specs.Domains.{IsDomainOf, IsUnder}
 use Rattle.step_sets.specs.Entries.{HasGoalBelow, IsEntered, LeadsToGoal, Opens, towards_goal, region, initial, root, as_domain, as_entered}
 use Rattle.step_sets.specs.Sets.{IsSetOf}
@@ -75,14 +75,14 @@ module _ (nodes : List NodeRow) (goals : List ℕ) (domain : Domain) where
   IsEnteredByParent bound n = (p : ℕ) × (p < bound) × Opens nodes goals domain p × EntersChild p n
 
   -- the node leads to a goal, or is where the walk begins, or is entered by an open parent
-  abbrev pub IsCandidate : ℕ → ℕ → Type 0
-  IsCandidate bound n = LeadsToGoal nodes goals n ⊎ ((n ≡ start_of domain) ⊎ IsEnteredByParent bound n)
+  abbrev pub IsProspect : ℕ → ℕ → Type 0
+  IsProspect bound n = LeadsToGoal nodes goals n ⊎ ((n ≡ top_of domain) ⊎ IsEnteredByParent bound n)
 
-  -- the nodes before the bound are done: those of them that are entered are listed, and the candidates from
+  -- the nodes before the bound are done: those of them that are entered are listed, and the prospects from
   -- there on are pending
   pub record IsDone (bound : ℕ) (has : ℕ → Bool) (entries : List ℕ) : Type 0 where
     pub entered : IsSetOf (λ n. (n < bound) × IsEntered nodes goals domain n) entries
-    pub pending : (n : ℕ) → IsTrue (has n) ↔ ((bound ≤ n) × IsCandidate bound n)
+    pub pending : (n : ℕ) → IsTrue (has n) ↔ ((bound ≤ n) × IsProspect bound n)
 
 module _ (nodes : List NodeRow) (tree : IsTree nodes) (goals : List ℕ) (domain : Domain) where
   -- each entered node is one of the tree
@@ -92,7 +92,7 @@ module _ (nodes : List NodeRow) (tree : IsTree nodes) (goals : List ℕ) (domain
   entered_inside n (region can c parallel opens) = under_inside nodes domain n can.0
   entered_inside n (initial can c compound off opens) = under_inside nodes domain n can.0
 
-  pub nothing_done : (has : ℕ → Bool) → ((n : ℕ) → IsTrue (has n) ↔ (LeadsToGoal nodes goals n ⊎ (n ≡ start_of domain))) → IsDone nodes goals domain 0 has []
+  pub nothing_done : (has : ℕ → Bool) → ((n : ℕ) → IsTrue (has n) ↔ (LeadsToGoal nodes goals n ⊎ (n ≡ top_of domain))) → IsDone nodes goals domain 0 has []
   nothing_done has first = record {
     entered = record {
       in_order = λ k h. absurd (omega arith);
@@ -100,14 +100,14 @@ module _ (nodes : List NodeRow) (tree : IsTree nodes) (goals : List ℕ) (domain
     };
     pending = λ n. (
       (λ h. (omega arith, elim ((first n).0 h) [ inl leads ↦ inl leads | inr start ↦ inr (inl start) ])),
-      (λ (from, candidate). (first n).1 (elim candidate [
+      (λ (from, prospect). (first n).1 (elim prospect [
         | inl leads ↦ inl leads
         | inr e ↦ elim e [ inl start ↦ inr start | inr (p, before, opens, enters) ↦ absurd (omega arith) ]
       ])),
     );
   }
 
-  start_inside : (d : Domain) → IsDomainOf nodes d → start_of d < length nodes
+  start_inside : (d : Domain) → IsDomainOf nodes d → top_of d < length nodes
   start_inside (Node d) inside = inside
   start_inside Whole unit = tree.outline.some
 
@@ -118,37 +118,37 @@ module _ (nodes : List NodeRow) (tree : IsTree nodes) (goals : List ℕ) (domain
       let less = below_less nodes tree g n below in
       omega arith
 
-  -- a candidate stands in the tree
-  pub pending_inside : AreNodes nodes goals → IsDomainOf nodes domain → (bound n : ℕ) → IsCandidate nodes goals domain bound n → n < length nodes
+  -- a prospect stands in the tree
+  pub pending_inside : AreNodes nodes goals → IsDomainOf nodes domain → (bound n : ℕ) → IsProspect nodes goals domain bound n → n < length nodes
   pending_inside are is bound n (inl leads) = goal_inside are n leads
   pending_inside are is bound n (inr (inl start)) = rw start (start_inside domain is)
   pending_inside are is bound n (inr (inr (p, before, opens, enters))) = child_inside nodes n p enters.0
 
   module _ (bound : ℕ) (has : ℕ → Bool) (entries : List ℕ) (done : IsDone nodes goals domain bound has entries) (first : ℕ) (least : (n : ℕ) → IsTrue (has n) → first ≤ n) where
-    from_candidate : (n : ℕ) → bound ≤ n → IsCandidate nodes goals domain bound n → first ≤ n
-    from_candidate n from candidate = least n ((done.pending n).1 (from, candidate))
+    from_prospect : (n : ℕ) → bound ≤ n → IsProspect nodes goals domain bound n → first ≤ n
+    from_prospect n from prospect = least n ((done.pending n).1 (from, prospect))
 
-    -- no node before the first candidate is entered or opens, but for those that are done
+    -- no node before the first prospect is entered or opens, but for those that are done
     mutual
       gap_entered : (n : ℕ) → IsEntered nodes goals domain n → bound ≤ n → first ≤ n
-      gap_entered n (root whole) from = from_candidate 0 from (inr (inl (rw whole refl)))
-      gap_entered n (towards_goal can leads) from = from_candidate n from (inl leads)
+      gap_entered n (root whole) from = from_prospect 0 from (inr (inl (rw whole refl)))
+      gap_entered n (towards_goal can leads) from = from_prospect n from (inl leads)
       gap_entered n (region {p = p} can c parallel opens) from =
           elim (cases_lt p bound) [
-            | inl before ↦ from_candidate n from (inr (inr (p, before, opens, (c, inl parallel))))
+            | inl before ↦ from_prospect n from (inr (inr (p, before, opens, (c, inl parallel))))
             | inr past ↦ (let less = parent_less nodes tree n p c in let upto = gap_opens p opens past in omega arith)
           ]
       gap_entered n (initial {p = p} can c compound off opens) from =
           elim (cases_lt p bound) [
-            | inl before ↦ from_candidate n from (inr (inr (p, before, opens, (c, inr (compound, off)))))
+            | inl before ↦ from_prospect n from (inr (inr (p, before, opens, (c, inr (compound, off)))))
             | inr past ↦ (let less = parent_less nodes tree n p c in let upto = gap_opens p opens past in omega arith)
           ]
 
       gap_opens : (n : ℕ) → Opens nodes goals domain n → bound ≤ n → first ≤ n
-      gap_opens n (as_domain is) from = from_candidate n from (inr (inl (rw is refl)))
+      gap_opens n (as_domain is) from = from_prospect n from (inr (inl (rw is refl)))
       gap_opens n (as_entered e) from = gap_entered n e from
 
-  -- where there is no candidate all is done
+  -- where there is no prospect all is done
   pub all_done : (bound : ℕ) (has : ℕ → Bool) (entries : List ℕ) → IsDone nodes goals domain bound has entries → ((n : ℕ) → IsTrue (has n) → ⊥) → IsSetOf (IsEntered nodes goals domain) entries
   all_done bound has entries done none =
       IsSetOf-same entries done.entered (λ n. (
@@ -162,11 +162,11 @@ module _ (nodes : List NodeRow) (tree : IsTree nodes) (goals : List ℕ) (domain
         )),
       ))
 
-  start_under : (d : Domain) (n : ℕ) → n ≡ start_of d → IsUnder nodes d n → (d ≡ Whole) × (n ≡ 0)
+  start_under : (d : Domain) (n : ℕ) → n ≡ top_of d → IsUnder nodes d n → (d ≡ Whole) × (n ≡ 0)
   start_under (Node d) n start under = absurd (below_itself nodes tree n (let P : ℕ → Type 0 = λ x. IsBelow nodes n x in subst P (sym start) under))
   start_under Whole n start under = (refl, start)
 
-  opens_after_start : (d : Domain) (k x : ℕ) → (domain ≡ d) → Opens nodes goals domain k → x ≡ start_of d → IsBelow nodes x k → ⊥
+  opens_after_start : (d : Domain) (k x : ℕ) → (domain ≡ d) → Opens nodes goals domain k → x ≡ top_of d → IsBelow nodes x k → ⊥
   opens_after_start Whole k x is opens start below = root_not_below nodes tree k (let P : ℕ → Type 0 = λ y. IsBelow nodes y k in subst P start below)
   opens_after_start (Node d) k x is (as_domain at) start below =
       let same : d ≡ k = cc in
@@ -194,7 +194,7 @@ module _ (nodes : List NodeRow) (tree : IsTree nodes) (goals : List ℕ) (domain
     bound_upto : bound ≤ k
     bound_upto = ((done.pending k).0 first.here).0
 
-    -- the first candidate is entered if it can be
+    -- the first prospect is entered if it can be
     pub is_entered_now : CanBeEnteredOrWhole nodes domain k → IsEntered nodes goals domain k
     is_entered_now (inl (e, whole)) = rw e (root whole)
     is_entered_now (inr can) =
@@ -241,9 +241,9 @@ module _ (nodes : List NodeRow) (tree : IsTree nodes) (goals : List ℕ) (domain
     pub rest_after : (n : ℕ) → IsTrue (rest n) → k < n
     rest_after n h = let (was, apart) = (first.popped n).0 h in let upto = first.least n was in omega arith
 
-    -- what stands after it and is a candidate is left
-    left : (n : ℕ) → k < n → IsCandidate nodes goals domain bound n → IsTrue (rest n)
-    left n after candidate = (first.popped n).1 ((done.pending n).1 (let upto = bound_upto in omega arith, candidate), (omega arith))
+    -- what stands after it and is a prospect is left
+    left : (n : ℕ) → k < n → IsProspect nodes goals domain bound n → IsTrue (rest n)
+    left n after prospect = (first.popped n).1 ((done.pending n).1 (let upto = bound_upto in omega arith, prospect), (omega arith))
 
     -- of an open node what is pending below it tells whether a goal is below it
     below_tells : Opens nodes goals domain k → HasBelow nodes rest k ↔ HasGoalBelow nodes goals k
@@ -269,8 +269,8 @@ module _ (nodes : List NodeRow) (tree : IsTree nodes) (goals : List ℕ) (domain
       (λ (c, how). (c, elim how [ inl parallel ↦ inl parallel | inr (compound, off) ↦ inr (compound, (λ on. off ((below_tells opens).0 on))) ])),
     )
 
-    -- the candidates after it
-    further : (n : ℕ) → IsTrue (rest n) → (k + 1 ≤ n) × IsCandidate nodes goals domain (k + 1) n
+    -- the prospects after it
+    further : (n : ℕ) → IsTrue (rest n) → (k + 1 ≤ n) × IsProspect nodes goals domain (k + 1) n
     further n h =
         let after = rest_after n h in
         let upto = bound_upto in (
@@ -284,7 +284,7 @@ module _ (nodes : List NodeRow) (tree : IsTree nodes) (goals : List ℕ) (domain
           ],
         )
 
-    back : (n : ℕ) → k + 1 ≤ n → IsCandidate nodes goals domain (k + 1) n → IsTrue (rest n) ⊎ (Opens nodes goals domain k × EntersChild nodes goals domain k n)
+    back : (n : ℕ) → k + 1 ≤ n → IsProspect nodes goals domain (k + 1) n → IsTrue (rest n) ⊎ (Opens nodes goals domain k × EntersChild nodes goals domain k n)
     back n after (inl leads) = inl (left n (omega arith) (inl leads))
     back n after (inr (inl start)) = inl (left n (omega arith) (inr (inl start)))
     back n after (inr (inr (p, before, opens, enters))) =
@@ -297,8 +297,8 @@ module _ (nodes : List NodeRow) (tree : IsTree nodes) (goals : List ℕ) (domain
               inr (subst P same (opens, enters)))
         ]
 
-    -- where it opens, the children that it enters by default are candidates too
-    pub pending_open : (new : ℕ → Bool) → Opens nodes goals domain k → ((n : ℕ) → IsTrue (new n) ↔ (IsTrue (rest n) ⊎ EntersFrom nodes rest k n)) → (n : ℕ) → IsTrue (new n) ↔ ((k + 1 ≤ n) × IsCandidate nodes goals domain (k + 1) n)
+    -- where it opens, the children that it enters by default are prospects too
+    pub pending_open : (new : ℕ → Bool) → Opens nodes goals domain k → ((n : ℕ) → IsTrue (new n) ↔ (IsTrue (rest n) ⊎ EntersFrom nodes rest k n)) → (n : ℕ) → IsTrue (new n) ↔ ((k + 1 ≤ n) × IsProspect nodes goals domain (k + 1) n)
     pending_open new opens more n = (
       (λ h. elim ((more n).0 h) [
         | inl r ↦ further n r
@@ -306,17 +306,17 @@ module _ (nodes : List NodeRow) (tree : IsTree nodes) (goals : List ℕ) (domain
             let less = parent_less nodes tree n k enters.0 in
             (omega arith, inr (inr (k, omega arith, opens, enters))))
       ]),
-      (λ (after, candidate). (more n).1 (elim (back n after candidate) [
+      (λ (after, prospect). (more n).1 (elim (back n after prospect) [
         | inl r ↦ inl r
         | inr (opens', enters) ↦ inr ((enters_tells opens n).1 enters)
       ])),
     )
 
     -- where it does not, no further ones are
-    pub pending_shut : ¬ Opens nodes goals domain k → (n : ℕ) → IsTrue (rest n) ↔ ((k + 1 ≤ n) × IsCandidate nodes goals domain (k + 1) n)
+    pub pending_shut : ¬ Opens nodes goals domain k → (n : ℕ) → IsTrue (rest n) ↔ ((k + 1 ≤ n) × IsProspect nodes goals domain (k + 1) n)
     pending_shut shut n = (
       (λ h. further n h),
-      (λ (after, candidate). elim (back n after candidate) [ inl r ↦ r | inr (opens, enters) ↦ absurd (shut opens) ]),
+      (λ (after, prospect). elim (back n after prospect) [ inl r ↦ r | inr (opens, enters) ↦ absurd (shut opens) ]),
     )
 
     pub first_inside : AreNodes nodes goals → IsDomainOf nodes domain → k < length nodes

@@ -1,4 +1,4 @@
--- What a walk down from the domain may still enter.
+-- The nodes that a walk down from the domain may still enter: its prospects.
 use Rattle.std.specs.Prelude.{◌≡◌, ◌⊎◌, ℕ, Bool, Some, IsTrue}
 use Rattle.node_tree.specs.declared.node.Kind.TheVariants.{Compound, Parallel}
 use Rattle.node_tree.specs.Kinds.{Nodes, kind_of}
@@ -8,9 +8,9 @@ use Rattle.step_sets.specs.declared.types.Domain.{Domain}
 use Rattle.step_sets.specs.declared.types.Domain.TheVariants.{Node, Whole}
 
 -- the domain, or the root of the whole tree
-abbrev pub start_of : Domain → ℕ
-start_of (Node n) = n
-start_of Whole = 0
+abbrev pub top_of : Domain → ℕ
+top_of (Node n) = n
+top_of Whole = 0
 
 -- the parent of each member is a member
 abbrev pub HasParents : Nodes → (ℕ → Bool) → Type 0

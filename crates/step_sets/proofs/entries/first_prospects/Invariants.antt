@@ -2,7 +2,7 @@ use Rattle.std.proofs.Common.{ℕ, ◌↔◌, IsTrue, take}
 use Rattle.std.specs.BTreeSet.{contains}
 use Rattle.std.specs.Ordering.{nat_cmp}
 use Rattle.step_sets.specs.Entries.{LeadsToGoal}
-use Rattle.step_sets.proofs.entries.first_candidates.Given as goal
+use Rattle.step_sets.proofs.entries.first_prospects.Given as goal
 
 -- the nodes that lead to the goals so far
 abbrev pub invariant-loop-goal : goal.invariant-loop-goal
