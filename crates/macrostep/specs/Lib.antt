@@ -1,0 +1,4 @@
+pub mod Macro
+pub mod Allowed
+pub mod Trails
+pub mod Laws
