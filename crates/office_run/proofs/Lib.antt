@@ -3,5 +3,7 @@ pub mod ProgressLemmas
 pub mod ReplyLemmas
 pub mod LineLemmas
 pub mod StepLemmas
+pub mod CountLemmas
+pub mod FlatLemmas
 pub mod DefinitionsLemmas
 pub mod ServeLemmas

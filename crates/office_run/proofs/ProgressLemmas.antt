@@ -18,7 +18,8 @@ use Rattle.office_run.specs.Script.{IsLine, AreRead}
 use Rattle.office_run.specs.Replies.{answer_line, office_after, answers, office_after_all}
 use Rattle.office_run.specs.Step.{RunState, Steps, AnswersLine, AnswersPart, RefusesPart}
 use Rattle.office_run.specs.Progress.{AreFeedless, AreEndedLines, AreAllLines, AreTakenLines, IsUnderWay}
-use Rattle.office_run.specs.Run.{IsPart, IsCutShort, Tells}
+use Rattle.office_run.specs.Printing.{IsPart}
+use Rattle.office_run.specs.Run.{IsCutShort, Tells}
 use Rattle.office_run.proofs.InputLemmas.{by_test, prepend-both, prepend-nothing}
 
 -- ---- lines and their line feeds

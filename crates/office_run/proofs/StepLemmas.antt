@@ -7,7 +7,7 @@ use Rattle.office_run.specs.declared.program.TheConstants.{TOO_LONG}
 use Rattle.office_run.specs.declared.status.Status.{Status}
 use Rattle.office_run.specs.declared.status.Status.TheVariants as status
 use Rattle.office_run.specs.Input.{Inflow, IsEndedLine, IsLastLine, IsNextLine, IsTooMuch}
-use Rattle.office_run.specs.Run.{WritesPart}
+use Rattle.office_run.specs.Printing.{WritesPart}
 use Rattle.office_run.specs.Status.{StationFaults, CountsFaults}
 use Rattle.office_run.specs.Step.{RunState, Steps}
 

@@ -6,6 +6,8 @@ pub mod Script
 pub mod Replies
 pub mod Status
 pub mod Definitions
+pub mod DefinitionsLines
+pub mod Printing
 pub mod Step
 pub mod Run
 pub mod Progress

@@ -1,8 +1,8 @@
 //! The words of the command line.
 
-ghost use Rattle.std.specs.Prelude.{◌≡◌, is_some, map};
+ghost use Rattle.std.specs.Prelude.{◌≡◌, ◌∷◌, [], map};
 ghost use Rattle.std.specs.Rc.{rc_str_bytes};
-ghost use Rattle.office_run.specs.Command.{command_of, is_word, IsCommand};
+ghost use Rattle.office_run.specs.Command.{is_word, IsCommand};
 
 use std::alloc::{AllocError, Global};
 use std::rc::RcStr;
@@ -12,6 +12,8 @@ use xs_data::Text;
 /// What the program is asked to do.
 #[derive(Debug, Drop)]
 pub enum Command {
+    /// `check DEFS`: tells what the definitions have, or for which fault they are refused.
+    Check { defs: Text },
     /// `run DEFS JOURNAL`: answers the lines of its input.
     Run { defs: Text, journal: Text },
 }
@@ -40,29 +42,37 @@ impl From<AllocError> for WordsFault {
 pub fn words(alloc: Global, words: &[RcStr]) -> Result<Command, WordsFault>
     ensures { IsCommand (map rc_str_bytes words.now) result }
 {
-    if !is_run(words) {
-        return Err(WordsFault::NoForm);
+    match words {
+        [check, defs] => check_command(alloc, check.as_str(), defs.as_str()),
+        [run, defs, journal] => {
+            run_command(alloc, run.as_str(), defs.as_str(), journal.as_str())
+        }
+        _ => Err(WordsFault::NoForm),
     }
-    let [_, defs, journal] = words else {
-        return Err(WordsFault::NoForm);
-    };
-    Ok(Command::Run {
-        defs: Text::from_str(alloc, defs.as_str())?,
-        journal: Text::from_str(alloc, journal.as_str())?,
-    })
 }
 
-/// Whether the words are `run DEFS JOURNAL`. It takes no memory.
-pub fn is_run(words: &[RcStr]) -> bool
-    ensures { result ≡ is_some (command_of (map rc_str_bytes words.now)) }
+/// The command of two words.
+fn check_command(alloc: Global, check: &str, defs: &str) -> Result<Command, WordsFault>
+    ensures { IsCommand (check.now ∷ defs.now ∷ []) result }
 {
-    let [run, defs, journal] = words else {
-        return false;
-    };
-    let run = run.as_str();
-    let defs = defs.as_str();
-    let journal = journal.as_str();
-    run.as_bytes() == b"run".as_slice() && is_word(defs.as_bytes()) && is_word(journal.as_bytes())
+    if check.as_bytes() != b"check".as_slice() || !is_word(defs.as_bytes()) {
+        return Err(WordsFault::NoForm);
+    }
+    let defs = Text::from_str(alloc, defs)?;
+    Ok(Command::Check { defs })
+}
+
+/// The command of three words.
+fn run_command(alloc: Global, run: &str, defs: &str, journal: &str) -> Result<Command, WordsFault>
+    ensures { IsCommand (run.now ∷ defs.now ∷ journal.now ∷ []) result }
+{
+    let are_words = is_word(defs.as_bytes()) && is_word(journal.as_bytes());
+    if run.as_bytes() != b"run".as_slice() || !are_words {
+        return Err(WordsFault::NoForm);
+    }
+    let defs = Text::from_str(alloc, defs)?;
+    let journal = Text::from_str(alloc, journal)?;
+    Ok(Command::Run { defs, journal })
 }
 
 /// Whether this may be a word of a form.

@@ -1,7 +1,7 @@
-//! The definitions: their bytes are taken from a source, and read as an office.
+//! The definitions: their bytes are taken from a source, and flat machines are read from them.
 
-ghost use Rattle.std.specs.Prelude.{◌≡◌, ◌+◌, ◌≤◌, ◌↔◌, Err, IfOk, IsTrue};
-ghost use Rattle.office_run.specs.Definitions.{CountsSource, ReadsDefinitions, TakesText, ReadsText};
+ghost use Rattle.std.specs.Prelude.{◌≡◌, ◌+◌, ◌≤◌, ◌↔◌, IfOk, IsTrue};
+ghost use Rattle.office_run.specs.Definitions.{CountsSource, ReadsFlat, TakesText};
 
 use crate::input::{new_piece, read_piece};
 use office_core::{FlatFault, FlatMachines, read_flat};
@@ -14,12 +14,9 @@ use xs_outside::{Got, Source};
 /// The most bytes that are taken of definitions: one more than a text may have shows that it is too long.
 pub const MAX_DEFINITIONS_TAKEN: usize = MAX_TEXT + 1;
 
-/// Why there are no definitions.
+/// Why there is no text of definitions.
 #[derive(Clone, Copy, Debug, PartialEq, Eq, Error)]
 pub enum DefinitionsFault {
-    /// The text is no office of flat machines.
-    #[error("the definitions are refused")]
-    Refused,
     /// The source failed.
     #[error("the definitions can't be read")]
     Failed,
@@ -37,50 +34,11 @@ impl From<AllocError> for DefinitionsFault {
     }
 }
 
-/// Reads the definitions from a source. It takes one byte at most more than a text may have.
-pub fn read_definitions<S: Source>(
-    alloc: Global,
-    source: &mut S,
-) -> Result<FlatMachines, DefinitionsFault>
-    ensures reads { ReadsDefinitions result (S.left source.old) }
-    ensures taken { S.taken source.new ≤ S.taken source.old + MAX_DEFINITIONS_TAKEN }
-    ensures faults { CountsSource result (S.read_faults source.old) (S.read_faults source.new) }
-{
-    let text = take_text(alloc, source)?;
-    machines_of(alloc, text.as_slice())
-}
-
-/// The machines that a text means.
-fn machines_of(alloc: Global, text: &[u8]) -> Result<FlatMachines, DefinitionsFault>
-    ensures reads { ReadsText result text.now }
-    ensures not_failed { result ≡ Err DefinitionsFault.Failed → ⊥ }
-{
-    meaning_is_unique();
-    let json = match read(alloc, text) {
-        Ok(json) => json,
-        Err(fault) if is_memory(&fault) => return Err(DefinitionsFault::Memory),
-        Err(_) => return Err(DefinitionsFault::Refused),
-    };
-    match read_flat(alloc, &json) {
-        Ok(machines) => Ok(machines),
-        Err(FlatFault::NotFlat) => Err(DefinitionsFault::Refused),
-        Err(FlatFault::Memory) => Err(DefinitionsFault::Memory),
-    }
-}
-
-/// Whether a fault is want of memory, and none of the text's own.
-fn is_memory(fault: &JsonFault) -> bool
-    ensures { IsTrue result ↔ (fault.now ≡ JsonFault.Memory) }
-{
-    matches!(fault, JsonFault::Memory)
-}
-
 /// Takes the bytes of a source, to its end or the limit.
-fn take_text<S: Source>(alloc: Global, source: &mut S) -> Result<Vec<u8>, DefinitionsFault>
+pub fn take_text<S: Source>(alloc: Global, source: &mut S) -> Result<Vec<u8>, DefinitionsFault>
     ensures text { IfOk result (λ text.
         TakesText text.items (S.left source.old) (S.left source.new)) }
     ensures taken { S.taken source.new ≤ S.taken source.old + MAX_DEFINITIONS_TAKEN }
-    ensures not_refused { result ≡ Err DefinitionsFault.Refused → ⊥ }
     ensures faults { CountsSource result (S.read_faults source.old) (S.read_faults source.new) }
 {
     let mut text = Vec::new(alloc);
@@ -94,4 +52,24 @@ fn take_text<S: Source>(alloc: Global, source: &mut S) -> Result<Vec<u8>, Defini
         }
     }
     Ok(text)
+}
+
+/// The machines of a text, where it is an office of flat machines.
+pub fn flat_machines(alloc: Global, text: &[u8]) -> Result<FlatMachines, FlatFault>
+    ensures { ReadsFlat result text.now }
+{
+    meaning_is_unique();
+    let json = match read(alloc, text) {
+        Ok(json) => json,
+        Err(fault) if is_memory(&fault) => return Err(FlatFault::Memory),
+        Err(_) => return Err(FlatFault::NotFlat),
+    };
+    read_flat(alloc, &json)
+}
+
+/// Whether a fault is want of memory, and none of the text's own.
+fn is_memory(fault: &JsonFault) -> bool
+    ensures { IsTrue result ↔ (fault.now ≡ JsonFault.Memory) }
+{
+    matches!(fault, JsonFault::Memory)
 }

@@ -3,6 +3,7 @@
 
 mod command;
 mod definitions;
+mod definitions_lines;
 mod input;
 mod line_buffer;
 mod program;
@@ -15,7 +16,7 @@ mod tests;
 pub use command::{Command, WordsFault, words};
 pub use definitions::MAX_DEFINITIONS_TAKEN;
 pub use input::MAX_INPUT;
-pub use program::{REFUSAL, TOO_LONG, USAGE, run};
+pub use program::{TOO_LONG, UNHOSTED, USAGE, run};
 pub use status::{
     EXIT_DONE, EXIT_INPUT_LONG, EXIT_MEMORY, EXIT_READ_FAULT, EXIT_REFUSED, EXIT_USAGE,
     EXIT_WRITE_FAULT,

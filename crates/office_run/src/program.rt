@@ -1,9 +1,10 @@
 //! The program: the words are looked at first, then the definitions, then the lines of the input as they come.
 
-ghost use Rattle.std.specs.Prelude.{◌≡◌, ◌≢◌, ◌⊎◌, ◌+◌, ◌-◌, ◌≤◌, ℕ, List, None, Some, IfOk, IsSome, map, string_bytes};
+ghost use Rattle.std.specs.Prelude.{◌≡◌, ◌≢◌, ◌⊎◌, ◌+◌, ◌-◌, ◌≤◌, ℕ, List, None, Some, IfOk, IsSome, MatchResult, map, string_bytes};
 ghost use Rattle.std.specs.Rc.{rc_str_bytes};
-ghost use Rattle.std.specs.Io.KnownBytes.{append_known};
 ghost use Rattle.xs_outside.specs.Counts.{Rose};
+ghost use Rattle.action_table.specs.declared.definitions.Defs.{Defs as definitions_of_office};
+ghost use Rattle.action_table.specs.DefsText.{MeansDefs};
 ghost use Rattle.office_core.specs.Office.{empty_office};
 ghost use Rattle.office_run.specs.declared.input.TheConstants.{MAX_INPUT};
 ghost use Rattle.office_run.specs.declared.script.Line.{Line};
@@ -15,18 +16,22 @@ ghost use Rattle.office_run.specs.Script.{IsLine};
 ghost use Rattle.office_run.specs.Replies.{answer_line, office_after};
 ghost use Rattle.office_run.specs.declared.definitions.TheConstants.{MAX_DEFINITIONS_TAKEN};
 ghost use Rattle.office_run.specs.Command.{command_of};
+ghost use Rattle.office_run.specs.Printing.{PrintsNothing, PrintsText};
 ghost use Rattle.office_run.specs.Step.{Steps, IsBounded};
-ghost use Rattle.office_run.specs.Run.{Serves, Converses, WritesPart};
+ghost use Rattle.office_run.specs.Run.{Converses, Hosts, LeavesInput, Serves, ServesCommand, ServesText};
 ghost use Rattle.office_run.specs.Status.{code_of, CountsFaults, CountsStep, CountsRun};
 
-use crate::command::is_run;
-use crate::definitions::{DefinitionsFault, read_definitions};
+use crate::command;
+use crate::command::{Command, WordsFault};
+use crate::definitions::{DefinitionsFault, flat_machines, take_text};
+use crate::definitions_lines::{counts_line, refusal_line};
 use crate::input::{Input, Next};
 use crate::line_buffer::LineBuffer;
 use crate::replies::answer_line;
 use crate::script::{Line, read_line};
 use crate::status::Status;
-use office_core::Core;
+use action_table::read_defs;
+use office_core::{Core, FlatFault};
 use std::alloc::{AllocError, Global};
 use std::rc::RcStr;
 use xs_outside::{Both, Ended, Source, Station};
@@ -34,8 +39,8 @@ use xs_outside::{Both, Ended, Source, Station};
 /// What is written where the words are in no form.
 pub const USAGE: &str = "usage: xoffice check, run, show, audit, load or serve\n";
 
-/// What is written where the definitions are refused.
-pub const REFUSAL: &str = "definitions\n";
+/// What is written where definitions are accepted that aren't hosted yet, since they are no office of flat machines.
+pub const UNHOSTED: &str = "definitions\n";
 
 /// What is written where the input is too long.
 pub const TOO_LONG: &str = "input long\n";
@@ -83,6 +88,19 @@ pub fn run<S: Source, W: Station>(
     // It takes no more than it may.
     ensures definitions_taken { S.taken defs.new ≤ S.taken defs.old + MAX_DEFINITIONS_TAKEN }
     ensures input_taken { W.taken result.station ≤ W.taken station + (MAX_INPUT + 1) }
+
+    // Only `run` touches the input.
+    ensures input_left { LeavesInput (command_of (map rc_str_bytes words.now))
+        (record {
+          left = W.left station;
+          taken = W.taken station;
+          faults = W.read_faults station;
+        })
+        (record {
+          left = W.left result.station;
+          taken = W.taken result.station;
+          faults = W.read_faults result.station;
+        }) }
 {
     let mut station = station;
     let status = serve(alloc, words, defs, &mut station);
@@ -129,29 +147,168 @@ fn serve<S: Source, W: Both>(
         }) }
     ensures definitions_taken { S.taken defs.new ≤ S.taken defs.old + MAX_DEFINITIONS_TAKEN }
     ensures input_taken { W.taken station.new ≤ W.taken station.old + (MAX_INPUT + 1) }
+    ensures input_left { LeavesInput (command_of (map rc_str_bytes words.now))
+        (record {
+          left = W.left station.old;
+          taken = W.taken station.old;
+          faults = W.read_faults station.old;
+        })
+        (record {
+          left = W.left station.new;
+          taken = W.taken station.new;
+          faults = W.read_faults station.new;
+        }) }
 {
-    if !is_run(words) {
-        return print(station, USAGE, Status::Usage);
+    match command::words(alloc, words) {
+        Ok(command) => serve_command(alloc, &command, defs, station),
+        Err(WordsFault::NoForm) => print(station, USAGE, Status::Usage),
+        Err(WordsFault::Memory) => Status::Memory,
     }
-    match read_definitions(alloc, defs) {
-        Ok(machines) => {
-            let mut core = Core::new(alloc, machines);
-            converse(alloc, &mut core, station)
-        }
-        Err(DefinitionsFault::Refused) => print(station, REFUSAL, Status::Refused),
+}
+
+/// Does what a command asks. The text of its definitions is taken first.
+fn serve_command<S: Source, W: Both>(
+    alloc: Global,
+    command: &Command,
+    defs: &mut S,
+    station: &mut W,
+) -> Status
+    ensures served { ServesCommand result command.now (S.left defs.old) (record {
+      input = W.left station.old;
+      taken = W.taken station.new - W.taken station.old;
+      before = W.written station.old;
+      after = W.written station.new;
+    }) }
+    ensures form { result ≢ Status.Usage }
+    ensures faults { CountsRun result
+        (record {
+          definitions = S.read_faults defs.old;
+          station = record {
+            reads = W.read_faults station.old;
+            writes = W.write_faults station.old;
+          };
+        })
+        (record {
+          definitions = S.read_faults defs.new;
+          station = record {
+            reads = W.read_faults station.new;
+            writes = W.write_faults station.new;
+          };
+        }) }
+    ensures definitions_taken { S.taken defs.new ≤ S.taken defs.old + MAX_DEFINITIONS_TAKEN }
+    ensures input_taken { W.taken station.new ≤ W.taken station.old + (MAX_INPUT + 1) }
+    ensures input_left { LeavesInput (Some command.now)
+        (record {
+          left = W.left station.old;
+          taken = W.taken station.old;
+          faults = W.read_faults station.old;
+        })
+        (record {
+          left = W.left station.new;
+          taken = W.taken station.new;
+          faults = W.read_faults station.new;
+        }) }
+{
+    match take_text(alloc, defs) {
+        Ok(text) => serve_text(alloc, command, text.as_slice(), station),
         Err(DefinitionsFault::Failed) => Status::ReadFault,
         Err(DefinitionsFault::Memory) => Status::Memory,
     }
 }
 
+/// Does what a command asks over this text of its definitions.
+fn serve_text<W: Both>(alloc: Global, command: &Command, text: &[u8], station: &mut W) -> Status
+    ensures served { ServesText result command.now text.now (record {
+      input = W.left station.old;
+      taken = W.taken station.new - W.taken station.old;
+      before = W.written station.old;
+      after = W.written station.new;
+    }) }
+    ensures form { result ≢ Status.Usage }
+    ensures faults { CountsFaults result
+        (record { reads = W.read_faults station.old; writes = W.write_faults station.old })
+        (record { reads = W.read_faults station.new; writes = W.write_faults station.new }) }
+    ensures input_taken { W.taken station.new ≤ W.taken station.old + (MAX_INPUT + 1) }
+    ensures input_left { LeavesInput (Some command.now)
+        (record {
+          left = W.left station.old;
+          taken = W.taken station.old;
+          faults = W.read_faults station.old;
+        })
+        (record {
+          left = W.left station.new;
+          taken = W.taken station.new;
+          faults = W.read_faults station.new;
+        }) }
+{
+    let defs = match read_defs(alloc, text) {
+        Ok(defs) => defs,
+        Err(fault) => return print_line(station, refusal_line(alloc, fault), Status::Refused),
+    };
+    match command {
+        Command::Check { .. } => print_line(station, counts_line(alloc, &defs), Status::Done),
+        Command::Run { .. } => host(alloc, text, station),
+    }
+}
+
+/// Answers the lines of the input over a text that means definitions, where their machines are flat.
+fn host<W: Both>(alloc: Global, text: &[u8], station: &mut W) -> Status
+    requires { (defs : definitions_of_office) × MeansDefs text.now defs }
+    ensures hosts { Hosts result text.now (record {
+      input = W.left station.old;
+      taken = W.taken station.new - W.taken station.old;
+      before = W.written station.old;
+      after = W.written station.new;
+    }) }
+    ensures form { result ≢ Status.Usage }
+    ensures faults { CountsFaults result
+        (record { reads = W.read_faults station.old; writes = W.write_faults station.old })
+        (record { reads = W.read_faults station.new; writes = W.write_faults station.new }) }
+    ensures taken { W.taken station.new ≤ W.taken station.old + (MAX_INPUT + 1) }
+{
+    match flat_machines(alloc, text) {
+        Ok(machines) => {
+            let mut core = Core::new(alloc, machines);
+            converse(alloc, &mut core, station)
+        }
+        Err(FlatFault::NotFlat) => print(station, UNHOSTED, Status::Refused),
+        Err(FlatFault::Memory) => Status::Memory,
+    }
+}
+
+/// Writes a line, and ends so. Where there was no memory for it, it ends for want of memory.
+fn print_line<W: Both>(station: &mut W, line: Result<String, AllocError>, status: Status) -> Status
+    ensures written { MatchResult line
+        (λ text. PrintsText status (string_bytes text) result (record {
+          before = W.written station.old;
+          after = W.written station.new;
+          faults_before = W.write_faults station.old;
+          faults_after = W.write_faults station.new;
+        }))
+        (λ _. PrintsNothing result (record {
+          before = W.written station.old;
+          after = W.written station.new;
+          faults_before = W.write_faults station.old;
+          faults_after = W.write_faults station.new;
+        })) }
+    ensures left { W.left station.new ≡ W.left station.old }
+    ensures taken { W.taken station.new ≡ W.taken station.old }
+    ensures read_faults { W.read_faults station.new ≡ W.read_faults station.old }
+{
+    match line {
+        Ok(line) => print(station, line.as_str(), status),
+        Err(_) => Status::Memory,
+    }
+}
+
 /// Writes a text, and ends so.
 fn print<W: Both>(station: &mut W, text: &str, status: Status) -> Status
-    ensures written { ((result ≡ status)
-        × (W.written station.new ≡ append_known (W.written station.old) text.now)
-        × (W.write_faults station.new ≡ W.write_faults station.old))
-        ⊎ ((result ≡ Status.WriteFault)
-        × WritesPart (W.written station.old) (W.written station.new) text.now
-        × Rose (W.write_faults station.old) (W.write_faults station.new)) }
+    ensures written { PrintsText status text.now result (record {
+      before = W.written station.old;
+      after = W.written station.new;
+      faults_before = W.write_faults station.old;
+      faults_after = W.write_faults station.new;
+    }) }
     ensures left { W.left station.new ≡ W.left station.old }
     ensures taken { W.taken station.new ≡ W.taken station.old }
     ensures read_faults { W.read_faults station.new ≡ W.read_faults station.old }

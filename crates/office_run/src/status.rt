@@ -3,7 +3,7 @@
 ghost use Rattle.std.specs.Prelude.{◌≡◌};
 ghost use Rattle.office_run.specs.Status.{code_of};
 
-/// The exit status where the input was read to its end.
+/// The exit status where the input was read to its end, or the definitions were counted.
 pub const EXIT_DONE: u8 = 0;
 
 /// The exit status where the words are in no form.

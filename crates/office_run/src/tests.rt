@@ -2,7 +2,7 @@
 
 use crate::{
     EXIT_DONE, EXIT_INPUT_LONG, EXIT_MEMORY, EXIT_READ_FAULT, EXIT_REFUSED, EXIT_USAGE,
-    EXIT_WRITE_FAULT, MAX_INPUT, TOO_LONG, run,
+    EXIT_WRITE_FAULT, MAX_INPUT, TOO_LONG, UNHOSTED, run,
 };
 use std::alloc::Global;
 use std::rc::RcStr;
@@ -21,6 +21,8 @@ const ANSWERS: &[u8] =
 const USAGE: &[u8] = b"usage: xoffice check, run, show, audit, load or serve\n";
 
 const RUN: &[&str] = &["run", "office.json", "office"];
+
+const CHECK: &[&str] = &["check", "office.json"];
 
 // A run over the memory forms of the outside: its words, the bytes of its sources, and which calls of the definitions'
 // source and of the station fail.
@@ -87,14 +89,17 @@ fn scripts_get_their_answers(rt: HostRuntime) -> Result<(), Fail> {
 }
 
 #[test]
-fn words_and_definitions_are_refused(rt: HostRuntime) -> Result<(), Fail> {
-    let words: [&[&str]; 6] = [
+fn words_are_refused(rt: HostRuntime) -> Result<(), Fail> {
+    let words: [&[&str]; 9] = [
         &[],
         &["run"],
         &["run", "a"],
         &["run", "-a", "b"],
         &["run", "a", ""],
-        &["check", "a"],
+        &["check"],
+        &["check", "-a"],
+        &["check", "a", "b"],
+        &["serve", "a", "b", "127.0.0.1:80", "1", "1"],
     ];
     for words in &words {
         let case = Case {
@@ -105,16 +110,94 @@ fn words_and_definitions_are_refused(rt: HostRuntime) -> Result<(), Fail> {
         assert_eq!(rt; ended.status, 2);
         assert_eq!(rt; ended.station.output(), USAGE);
     }
-    let texts: [&[u8]; 3] = [b"", b"{}", b"[1"];
-    for definitions in &texts {
+    Ok(())
+}
+
+// Definitions, what `check` says of them, and what `run` says of those that it doesn't host.
+const DEFINITIONS: [(&[u8], &[u8], &[u8]); 10] = [
+    (TOGGLE, b"definitions machines 1 nodes 3\n", b""),
+    (
+        b"{\"machines\":[],\"implementations\":{}}",
+        b"definitions machines 0 nodes 0\n",
+        b"",
+    ),
+    (
+        b"{\"machines\":[{\"id\":\"x\"},{\"id\":\"y\",\"initial\":\"a\",\"states\":{\"a\":{}}}],\"implementations\":{}}",
+        b"definitions machines 2 nodes 3\n",
+        b"definitions\n",
+    ),
+    (
+        b"{\"machines\":[{\"id\":\"x\",\"inital\":\"a\"}],\"implementations\":{}}",
+        b"definitions machine 1 23\n",
+        b"definitions machine 1 23\n",
+    ),
+    (
+        b"{\"machines\":[{\"id\":\"x\",\"on\":{\"A\":{\"guard\":\"g\"}}}],\"implementations\":{}}",
+        b"definitions table 2 42\n",
+        b"definitions table 2 42\n",
+    ),
+    (
+        b"{\"machines\":[{\"id\":\"a\"},{\"id\":\"a\"}],\"implementations\":{}}",
+        b"definitions table 3 24\n",
+        b"definitions table 3 24\n",
+    ),
+    (
+        b"{}",
+        b"definitions table 1 0\n",
+        b"definitions table 1 0\n",
+    ),
+    (
+        b"{\"machines\":[",
+        b"definitions json 1 13\n",
+        b"definitions json 1 13\n",
+    ),
+    (b"", b"definitions json 1 0\n", b"definitions json 1 0\n"),
+    (
+        &[b'['; 65],
+        b"definitions json 5 64\n",
+        b"definitions json 5 64\n",
+    ),
+];
+
+#[test]
+fn definitions_are_counted_or_refused(rt: HostRuntime) -> Result<(), Fail> {
+    for (definitions, checked, refused) in &DEFINITIONS {
         let case = Case {
+            words: CHECK,
             definitions,
             ..script(SCRIPT)
         };
         let ended = ended(rt.alloc(), &case)?;
-        assert_eq!(rt; ended.status, 3);
-        assert_eq!(rt; ended.station.output(), b"definitions\n".as_slice());
+        let is_counted = checked.starts_with(b"definitions machines");
+        assert_eq!(rt; ended.status, if is_counted { 0 } else { 3 });
+        assert_eq!(rt; ended.station.output(), *checked);
+        let run = self::ended(
+            rt.alloc(),
+            &Case {
+                definitions,
+                ..script(b"")
+            },
+        )?;
+        assert_eq!(rt; run.status, if refused.is_empty() { 0 } else { 3 });
+        assert_eq!(rt; run.station.output(), *refused);
     }
+    Ok(())
+}
+
+#[test]
+fn definitions_that_are_too_long_are_refused(rt: HostRuntime) -> Result<(), Fail> {
+    let spaces = vec![in rt.alloc(); b' '; 1_048_577]?;
+    let case = Case {
+        words: CHECK,
+        definitions: spaces.as_slice(),
+        ..script(b"")
+    };
+    let ended = ended(rt.alloc(), &case)?;
+    assert_eq!(rt; ended.status, 3);
+    assert_eq!(rt;
+        ended.station.output(),
+        b"definitions json 6 1048576\n".as_slice()
+    );
     Ok(())
 }
 
@@ -170,6 +253,7 @@ fn a_line_is_answered_before_the_next_is_read(rt: HostRuntime) -> Result<(), Fai
 fn constants_are_those_of_the_program(rt: HostRuntime) {
     assert_eq!(rt; MAX_INPUT, 1_073_741_824);
     assert_eq!(rt; TOO_LONG, "input long\n");
+    assert_eq!(rt; UNHOSTED, "definitions\n");
     let statuses = [
         (EXIT_DONE, 0),
         (EXIT_USAGE, 2),
