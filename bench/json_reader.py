@@ -1,13 +1,13 @@
 #!/usr/bin/env python3
 """Times the JSON reader on texts of about 1 MiB, beside python3's own.
 
-The program reads each text as definitions, which it then refuses; what an empty text costs is taken off.
+`check` reads each text as definitions, which it then refuses; what an empty text costs is taken off.
 usage: json_reader.py PROGRAM
 """
 import json
 import sys
 
-from timing import best, run_over
+from timing import best, check_over
 
 LIMIT = 1_048_576
 TIMES = 15
@@ -36,7 +36,7 @@ def main():
     program = sys.argv[1]
 
     def read(text):
-        return run_over(program, text, REFUSED, TIMES)
+        return check_over(program, text, REFUSED, TIMES)
 
     nothing = read("")
     for name, text in TEXTS.items():
