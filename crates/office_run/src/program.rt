@@ -47,7 +47,8 @@ pub const TOO_LONG: &str = "input long\n";
 
 /// The program: it does what the words ask, with the definitions and the station, and answers the exit status with the
 /// station. Each line of the input is answered, and its answer written, before more input is asked for than it needs.
-/// It keeps one line and one piece of the input, of 65,536 bytes each.
+/// It keeps the text of the definitions, and one line and one piece of the input, of 65,536 bytes each. `check` reads the
+/// definitions once, at the cost of `read_defs`; `run` reads them so too, and those that it hosts once more.
 pub fn run<S: Source, W: Station>(
     alloc: Global,
     words: &[RcStr],
@@ -247,7 +248,11 @@ fn serve_text<W: Both>(alloc: Global, command: &Command, text: &[u8], station: &
     };
     match command {
         Command::Check { .. } => print_line(station, counts_line(alloc, &defs), Status::Done),
-        Command::Run { .. } => host(alloc, text, station),
+        Command::Run { .. } => {
+            // The office is made of flat machines, so what was linked needn't be kept while it runs.
+            drop(defs);
+            host(alloc, text, station)
+        }
     }
 }
 

@@ -51,7 +51,7 @@ fn status_over<'a>(rt: &'a HostRuntime, words: &'a [RcStr], a: &'a str, b: &'a s
 /// The status of this process. It fails for want of memory.
 fn status(rt: &HostRuntime) -> io::Result<u8> {
     let words = words(rt)?;
-    // `run DEFS JOURNAL`. Each file is opened at the first call that needs it.
+    // `check DEFS` or `run DEFS JOURNAL`. Each file is opened at the first call that needs it.
     let journal = word(&words, 2);
     let a = format!(in rt.alloc(); "{journal}.a")?;
     let b = format!(in rt.alloc(); "{journal}.b")?;

@@ -27,8 +27,8 @@ returns-in-Check-clause-served g c =
     (serves-counts c.counts_line.result c.in-Ok.defs c.in-Check.defs c.args.text.now c.print_line-in-Check.result exchange _ _
     c.in-Ok.ensures.reading c.counts_line.ensures c.print_line-in-Check.ensures.written)
 
-pub returns-clause-served : goal.returns-clause-served
-returns-clause-served g c =
+pub returns-in-Run-clause-served : goal.returns-in-Run-clause-served
+returns-in-Run-clause-served g c =
     let exchange : Exchange = record {
       input = g.W.Source.left c.args.station.now;
       taken = g.W.Source.taken c.host.new.station - g.W.Source.taken c.args.station.now;
