@@ -10,7 +10,7 @@ ghost use Rattle.delay_queue.specs.TimerKeys.{keyed, owner_key_of};
 
 use crate::keys::{any_of, id_of, search_due, search_owner};
 use crate::store::Store;
-use office_types::{Timer, TimerList};
+use office_types::{Timer, TimerList, copy_timer};
 use std::alloc::{AllocError, Global};
 use std::marker::Model;
 
@@ -126,7 +126,7 @@ impl Timers {
             let Some(timer) = self.find_due(*order, moment) else {
                 break;
             };
-            due.push(copy(alloc, timer)?)?;
+            due.push(copy_timer(alloc, timer)?)?;
         }
         Ok(Due::from_vec(due))
     }
@@ -234,22 +234,4 @@ impl Timers {
         let _ = self.by_due.insert(rank, order);
         let _ = self.by_owner.insert(place, order);
     }
-}
-
-/// An equal timer.
-fn copy(alloc: Global, timer: &Timer) -> Result<Timer, AllocError>
-    ensures { IfOk result (λ made. made ≡ timer.now) }
-{
-    let id = match &timer.id {
-        Some(id) => Some(id.copy(alloc)?),
-        None => None,
-    };
-    Ok(Timer {
-        order: timer.order,
-        owner: timer.owner,
-        target: timer.target,
-        due: timer.due,
-        id,
-        event: xs_model::copy(alloc, &timer.event)?,
-    })
 }

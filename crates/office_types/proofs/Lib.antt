@@ -1,4 +1,6 @@
 mod ValueLemmas
+mod RegionLemmas
+mod StateValueLemmas
 mod WorkedRowLemmas
 mod LineLemmas
 mod RequestLemmas

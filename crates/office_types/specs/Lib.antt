@@ -11,6 +11,7 @@ pub mod Ends
 pub mod Receivers
 pub mod Effects
 pub mod StateValue
+pub mod ChildValues
 pub mod Observation
 pub mod Step
 pub mod Moment

@@ -3,6 +3,7 @@
 //! request, and what a step changes; everything above is judged by these definitions.
 #![tactic(auto)]
 
+mod copies;
 mod entry;
 mod event;
 mod json_value;
@@ -15,7 +16,9 @@ mod outcome;
 mod own;
 mod request;
 mod request_line;
+mod state_values;
 
+pub use copies::{copy_effect, copy_item, copy_letter, copy_own, copy_record, copy_timer};
 pub use entry::{Entry, read_entry, write_entry};
 pub use event::{event_type, is_reserved, is_short};
 pub use json_value::{Bytes, read_value, write_value};
@@ -32,6 +35,7 @@ pub use office::{
 pub use outcome::{Effect, Effects, End, FaultName, Outcome, Own, Texts, To};
 pub use request::{Ask, Replies, Reply, Request, Word};
 pub use request_line::{read_request, write_request};
+pub use state_values::state_value;
 
 #[cfg(test)]
 mod tests;

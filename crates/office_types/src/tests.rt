@@ -4,6 +4,9 @@ use super::*;
 use std::alloc::{AllocError, Global};
 use std::test::Fail;
 
+mod copies;
+mod state_values;
+
 const REFUSED: &[u8] = b"the line is no request";
 
 // The canonical line of a line, or why the line is refused.

@@ -5,8 +5,8 @@ use Rattle.delay_queue.proofs.DueLemmas.{due_front, front_ends, front_goes_on, f
 use Rattle.delay_queue.proofs.timers.Timers.due.Goals as goal
 use Rattle.delay_queue.proofs.timers.Timers.due.Goals.{else-loop-order-test, then-loop-order-test+in_default}
 
-pub returns-in_err-copy-clause-none_due : goal.returns-in_err-copy-clause-none_due
-returns-in_err-copy-clause-none_due c = λ none.
+pub returns-in_err-copy_timer-clause-none_due : goal.returns-in_err-copy_timer-clause-none_due
+returns-in_err-copy_timer-clause-none_due c = λ none.
     let numbers = c.deref-order-items.result.now in
     let timers = c.args.self.now.timers in
     let whole : due_front c.args.moment timers numbers ≡ due_by c.args.moment timers = rw (← c.self.view_is, c.deref-order-items.ensures.value) (front_is_due c.args.moment c.self.inside.store.timers c.self.inside.by_due.items c.self.invariant.due) in
