@@ -17,8 +17,8 @@ use crate::outcomes::{
 use crate::runs::{follow, take};
 use crate::trail::Trail;
 use guard_eval::Def;
-use microstep::{StepFault, copy_own, first_microstep, select};
-use office_types::{MAX_MICROSTEPS, Outcome, Own};
+use microstep::{StepFault, first_microstep, select};
+use office_types::{MAX_MICROSTEPS, Outcome, Own, copy_own};
 use std::alloc::{AllocError, Global};
 use xs_model::Value;
 

@@ -6,7 +6,6 @@ mod acts;
 mod assignment;
 mod candidates;
 mod choices;
-mod copies;
 mod done;
 mod done_events;
 mod ends;
@@ -28,7 +27,6 @@ mod sending;
 mod spawning;
 mod steps;
 
-pub use copies::copy_own;
 pub use micro::{Micro, Picked, Places, StepFault, Values};
 pub use selection::select;
 pub use steps::{advance, first_microstep, machine_output, microstep};

@@ -15,7 +15,6 @@ ghost use Rattle.microstep.specs.Taking.{CanBeTaken, IsAnswered, LeavesAllowed, 
 ghost use Rattle.microstep.specs.Working.{AreActsTo, BecomesBy};
 
 use crate::acts::{act_all, leave_all};
-use crate::copies::copy_own;
 use crate::ends::{ended, output};
 use crate::entries::enter_all;
 use crate::micro::{Micro, Picked, StepFault};
@@ -23,7 +22,7 @@ use crate::moves::{Move, first_move, move_of};
 use crate::parts::{checked_context, value_in};
 use crate::progress::Progress;
 use guard_eval::Def;
-use office_types::{FaultName, Own};
+use office_types::{FaultName, Own, copy_own};
 use std::alloc::Global;
 use xs_data::Items;
 use xs_model::{Env, Value};
