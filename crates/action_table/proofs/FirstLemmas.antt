@@ -18,7 +18,7 @@ use Rattle.machine_json.proofs.ExpressionLemmas.{least_left, least_min, least_ri
 use Rattle.action_table.specs.declared.role.Shape.{Shape}
 use Rattle.action_table.specs.declared.role.TableRole.{TableRole}
 use Rattle.action_table.specs.declared.role.TableRole.TheVariants as role
-use Rattle.action_table.specs.Shapes.{has_members, has_needed, is_complete, is_relative, table_item_role, list_role, items_in, key_role, members_in, shape_of, shapes, takes}
+use Rattle.action_table.specs.Shapes.{has_needed, is_complete, is_relative, table_item_role, list_role, items_in, key_role, members_in, shape_of, shapes, takes}
 use Rattle.action_table.specs.TablePlaces.{HasItemFault, HasMemberFault, HasTableFault, IsLeastOf, at_key, in_first, in_items, in_later, in_members, in_rest, in_value, itself, least_of, own_fault, unknown}
 
 -- the least of two kinds of places

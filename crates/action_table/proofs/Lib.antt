@@ -1,3 +1,16 @@
+pub mod ApartLemmas
+pub mod AskLemmas
+pub mod DefsLemmas
 pub mod FirstLemmas
+pub mod LawLemmas
+pub mod LinkLemmas
+pub mod OfficeLemmas
+pub mod OneDefsLemmas
 pub mod OneTableLemmas
+pub mod ShapeLemmas
+pub mod StartLemmas
 pub mod TableLemmas
+pub mod ThereLemmas
+pub mod TwiceLemmas
+pub mod UseLemmas
+pub mod WellFormedLemmas

@@ -5,7 +5,7 @@ use Rattle.std.specs.Str.{bytes_eq}
 use Rattle.std.specs.Option.{option_map_or}
 use Rattle.ordered_json.specs.declared.json.Member.{Member}
 use Rattle.ordered_json.specs.declared.json.OrderedJson.{OrderedJson, OrderedJson-F, out-OrderedJson}
-use Rattle.ordered_json.specs.Words.{MemberParts, as_object, as_text, get, member_parts, place_of}
+use Rattle.ordered_json.specs.Words.{MemberParts, as_object, as_text, get, member_parts}
 use Rattle.xs_model.specs.declared.expr.Expr.{Expr}
 use Rattle.xs_model.specs.declared.action.Target.{Target}
 use Rattle.xs_model.specs.declared.action.Target.TheVariants as target
@@ -23,7 +23,7 @@ use Rattle.action_table.specs.declared.table.UnlinkedForm.{UnlinkedForm, out-Unl
 use Rattle.action_table.specs.declared.table.UnlinkedForm.TheOpen.{UnlinkedForm-F, UnlinkedItem-F}
 use Rattle.action_table.specs.declared.table.UnlinkedItem.{UnlinkedItem, out-UnlinkedItem}
 use Rattle.action_table.specs.Shapes.{members_in, shape_of}
-use Rattle.action_table.specs.TableMeaning.{IsNameAt, IsTargetOf, MeanItems, MeansAction, MeansActions, MeansActor, MeansActorOf, MeansAs, MeansInTurn, MeansItem, MeansNames, MeansOptional, MeansPart, MeansParts, MeansTable, MeansTarget, MeansTargetPart, MeansUnder, an_item, as_choice, as_form, as_items, as_parts, firsts, items_under, members_under, no_item, shape_in}
+use Rattle.action_table.specs.TableMeaning.{IsNameAt, MeanItems, MeansAction, MeansActions, MeansActor, MeansAs, MeansInTurn, MeansItem, MeansOptional, MeansPart, MeansParts, MeansTable, MeansTarget, MeansTargetPart, MeansUnder, an_item, as_choice, as_form, as_items, as_parts, firsts, items_under, members_under, no_item, shape_in}
 
 -- ---- parts
 

@@ -2,14 +2,14 @@
 use Rattle.std.proofs.Common.{◌≡◌, ℕ, ◌+◌, ◌<◌, Bool, true, false, ◌||◌, cond, List, [], ◌∷◌, ◌++◌, Option, None, Some, map, find, take, drop, get_or, length, ◌≤◌, refl, sym, ap, subst, ◌∙◌, rules}
 use Rattle.std.specs.Prelude.{IfOk, Result, Ok, Err, is_some, unwrap_or, codes, option_map, option_and_then, if◌then◌else◌}
 use Rattle.std.specs.declared.alloc.AllocError.{AllocError}
-use Rattle.std.specs.List.{fold, list_any}
+use Rattle.std.specs.List.{list_any}
 use Rattle.std.specs.Str.{bytes_eq}
 use Rattle.std.proofs.lemmas.List.{at_drop_all, at_drop_more, map-append, take_more}
 use Rattle.std.proofs.lemmas.List.Sums.{fold-append}
 use Rattle.ordered_json.specs.declared.json.Member.{Member}
 use Rattle.ordered_json.specs.declared.json.OrderedJson.{OrderedJson, OrderedJson-F, out-OrderedJson, the_lemmas as json_lemmas}
 use Rattle.ordered_json.specs.declared.json.OrderedJson.TheVariants as json
-use Rattle.ordered_json.specs.Words.{MemberParts, as_list, as_text, get, member_parts, place_of}
+use Rattle.ordered_json.specs.Words.{MemberParts, as_list, get, member_parts}
 use Rattle.xs_model.specs.Rising.{get as held}
 use Rattle.xs_model.specs.declared.expr.Expr.{Expr}
 use Rattle.xs_model.specs.declared.action.Target.{Target}
@@ -19,9 +19,9 @@ use Rattle.action_table.specs.declared.role.Shape.{Shape}
 use Rattle.action_table.specs.declared.role.Shape.TheVariants as shape
 use Rattle.action_table.specs.declared.role.TableRole.TheVariants as role
 use Rattle.action_table.specs.declared.table.UnlinkedForm.{UnlinkedForm, out-UnlinkedForm, the_lemmas as form_lemmas}
-use Rattle.action_table.specs.declared.table.UnlinkedForm.TheOpen.{UnlinkedForm-F, UnlinkedItem-F}
+use Rattle.action_table.specs.declared.table.UnlinkedForm.TheOpen.{UnlinkedForm-F}
 use Rattle.action_table.specs.declared.table.UnlinkedForm.TheVariants as form
-use Rattle.action_table.specs.declared.table.UnlinkedItem.{UnlinkedItem, out-UnlinkedItem}
+use Rattle.action_table.specs.declared.table.UnlinkedItem.{UnlinkedItem}
 use Rattle.action_table.specs.declared.table.UnlinkedItem.TheVariants as item
 use Rattle.action_table.specs.Shapes.{members_in, shape_of}
 use Rattle.action_table.specs.TableMeaning.{IsNameAt, MeanItems, MeansAction, MeansAs, MeansInTurn, MeansItem, MeansNames, MeansOptional, MeansPart, MeansParts, MeansTargetPart, MeansUnder, an_item, as_choice, as_form, as_items, as_parts, firsts, items_under, members_under, no_item, shape_in, with_new_key}

@@ -1,5 +1,14 @@
+pub mod DefNames
+pub mod Definitions
+pub mod DefsText
 pub mod Laws
+pub mod Linked
+pub mod Linking
+pub mod OuterShape
 pub mod Shapes
 pub mod TableFaults
 pub mod TableMeaning
 pub mod TablePlaces
+pub mod Twice
+pub mod Unnamed
+pub mod Uses

@@ -1,11 +1,11 @@
 -- What each value among the implementations is there for: the tables of forms, of their keys and of their values.
-use Rattle.std.specs.Prelude.{ℕ, Bool, true, false, not, ◌&&◌, ◌||◌, List, [], ◌∷◌, Option, None, Some, codes, is_some, is_none, option_and_then, option_map, if◌then◌else◌, unwrap_or}
-use Rattle.std.specs.List.{list_all, list_any, filter_map}
+use Rattle.std.specs.Prelude.{ℕ, Bool, true, false, not, ◌||◌, List, [], ◌∷◌, Option, None, Some, codes, is_some, option_and_then, if◌then◌else◌, unwrap_or}
+use Rattle.std.specs.List.{list_all}
 use Rattle.std.specs.Option.{option_map_or}
 use Rattle.std.specs.Map.{lookup}
 use Rattle.std.specs.Str.{bytes_eq}
 use Rattle.ordered_json.specs.declared.json.OrderedJson.{OrderedJson}
-use Rattle.ordered_json.specs.Words.{MemberParts, as_list, as_object, as_text, get, place_of}
+use Rattle.ordered_json.specs.Words.{MemberParts, as_list, as_object, as_text, get}
 use Rattle.action_table.specs.declared.role.Shape.{Shape}
 use Rattle.action_table.specs.declared.role.Shape.TheVariants as shape
 use Rattle.action_table.specs.declared.role.TableRole.{TableRole}

@@ -1,5 +1,5 @@
 -- Where the implementations have a fault.
-use Rattle.std.specs.Prelude.{◌≡◌, ℕ, true, ◌&&◌, List, [], ◌∷◌, Option, None, Some, min, if◌then◌else◌}
+use Rattle.std.specs.Prelude.{◌≡◌, ℕ, true, ◌&&◌, List, ◌∷◌, Option, None, Some, min, if◌then◌else◌}
 use Rattle.std.specs.Option.{option_map_or}
 use Rattle.ordered_json.specs.declared.json.OrderedJson.{OrderedJson}
 use Rattle.ordered_json.specs.Words.{MemberParts, as_object, place_of}

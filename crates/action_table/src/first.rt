@@ -98,7 +98,7 @@ fn first_of_items(
 }
 
 /// The lesser of two places that there may be.
-fn least_of(first: Option<usize>, second: Option<usize>) -> Option<usize>
+pub(crate) fn least_of(first: Option<usize>, second: Option<usize>) -> Option<usize>
     ensures { result ≡ least_of first second }
 {
     match (first, second) {

@@ -1,4 +1,4 @@
-use Rattle.std.proofs.Common.{◌≡◌, ℕ, Bool, true, List, [], Option, Some, map, sym, ap, subst, ◌∙◌}
+use Rattle.std.proofs.Common.{◌≡◌, ℕ, true, List, [], Some, map, sym, ap, subst, ◌∙◌}
 use Rattle.std.specs.Str.{bytes_eq}
 use Rattle.ordered_json.specs.declared.json.Member.{Member}
 use Rattle.ordered_json.specs.declared.json.OrderedJson.{OrderedJson}

@@ -1,18 +1,18 @@
-use Rattle.std.proofs.Common.{rules, ◌≡◌, ◌+◌, map, ℕ, List, [], ◌∷◌, ◌++◌, take, sym, ap, ◌∙◌, subst, Option, Some, None, refl, Bool, true, false}
-use Rattle.std.specs.Prelude.{Result, Ok, Err, IfOk, if◌then◌else◌}
+use Rattle.std.proofs.Common.{◌≡◌, ◌+◌, map, ℕ, List, [], ◌∷◌, ◌++◌, take, sym, ap, ◌∙◌, subst, Option, Some, None, Bool, true}
+use Rattle.std.specs.Prelude.{IfOk, if◌then◌else◌}
 use Rattle.std.proofs.lemmas.List.{take_more, take_all, map-append}
-use Rattle.ordered_json.specs.declared.json.OrderedJson.{OrderedJson, the_lemmas as json_lemmas}
+use Rattle.ordered_json.specs.declared.json.OrderedJson.{OrderedJson}
 use Rattle.ordered_json.specs.declared.json.OrderedJson.TheVariants as json
 use Rattle.ordered_json.specs.declared.json.Member.{Member}
-use Rattle.ordered_json.specs.Words.{MemberParts, as_list, as_object, member_parts}
+use Rattle.ordered_json.specs.Words.{MemberParts, member_parts}
 use Rattle.machine_json.specs.declared.expressions.FormPlace.TheVariants.{AtOperator}
 use Rattle.machine_json.specs.Expressions.{HasUnknownForm}
 use Rattle.action_table.specs.declared.role.Shape.{Shape}
 use Rattle.action_table.specs.declared.role.TableRole.{TableRole}
 use Rattle.action_table.specs.declared.role.TableRole.TheVariants as role
 use Rattle.action_table.specs.Shapes.{is_complete, key_role, shape_of, takes}
-use Rattle.action_table.specs.TablePlaces.{HasItemFault, HasMemberFault, HasTableFault, IsLeastOf, least_of}
-use Rattle.action_table.proofs.FirstLemmas.{expression-least, given-too, items-more, items-none, list-least, members-more, members-none, no_list-least, not-expression, object-least, one-key, one-value, refused-least, scalar-least}
+use Rattle.action_table.specs.TablePlaces.{HasItemFault, HasMemberFault, HasTableFault, IsLeastOf}
+use Rattle.action_table.proofs.FirstLemmas.{expression-least, given-too, items-more, items-none, list-least, members-more, members-none, no_list-least, not-expression, object-least, one-key, one-value, refused-least}
 use Rattle.action_table.proofs.first.+first_fault.Goals.{first_fault-then-is_complete, first_fault-else-is_complete, first_of_members-in-Some+in_ok-found-in-Some, first_of_members-in-None}
 use Rattle.action_table.proofs.first.+first_fault.Goals as goal
 

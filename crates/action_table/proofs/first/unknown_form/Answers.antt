@@ -1,4 +1,4 @@
-use Rattle.std.proofs.Common.{rules, sym, ap, ◌∙◌, Option, Some}
+use Rattle.std.proofs.Common.{sym, ap, ◌∙◌, Some}
 use Rattle.machine_json.specs.declared.expressions.FormFault.{FormFault}
 use Rattle.action_table.proofs.FirstLemmas.{read-none, read-unknown}
 use Rattle.action_table.proofs.first.unknown_form.Goals as goal
