@@ -1,5 +1,5 @@
 pub mod TimerLemmas
-pub mod SlotLemmas
 pub mod QueueLemmas
 pub mod OwnerLemmas
 pub mod DueLemmas
+pub mod NumberedLemmas

@@ -1,3 +1,2 @@
 pub mod TimerKeys
 pub mod Queue
-pub mod Slots

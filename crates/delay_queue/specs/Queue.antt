@@ -1,5 +1,6 @@
 -- What contracts see of the timers of an office: the list of them by number, and for how many more there is room.
-use Rattle.std.specs.Prelude.{◌≡◌, ℕ, min, Bool, true, List, find, Option, None, Some, not, filter, nat_eq, nat_le, if◌then◌else◌}
+use Rattle.std.specs.Prelude.{◌≡◌, ℕ, min, Bool, true, List, map, find, Option, None, Some, not, filter, nat_eq, nat_le, if◌then◌else◌}
+use Rattle.std.specs.List.{AllByRecursion}
 use Rattle.office_types.specs.declared.office.Timer.{Timer}
 use Rattle.office_books.specs.KeyIndex.{IsIn, IsKeyIndex}
 use Rattle.delay_queue.specs.TimerKeys.{due_key, owner_key_of, keyed}
@@ -7,6 +8,14 @@ use Rattle.delay_queue.specs.TimerKeys.{due_key, owner_key_of, keyed}
 pub record TimerQueue : Type 0 where
   pub timers : List Timer
   pub spare : ℕ
+
+-- the timers that are held by number
+abbrev pub timers_in : List (ℕ × Timer) → List Timer
+timers_in items = map (λ (pair : ℕ × Timer). pair.1) items
+
+-- each timer is held under its own number
+abbrev pub HaveTheirNumbers : List (ℕ × Timer) → Type 0
+HaveTheirNumbers items = AllByRecursion (λ (pair : ℕ × Timer). pair.1.order ≡ pair.0) items
 
 -- the timers, and the smallest of three rooms for more
 abbrev pub queue_with_room : List Timer → ℕ → ℕ → ℕ → TimerQueue
@@ -44,3 +53,8 @@ pub record IsOneOf (test : Timer → Bool) (order : ℕ) (timers : List Timer) :
 pub record HasIndexes (timers : List Timer) (by_due : List ℕ) (by_owner : List ℕ) : Type 0 where
   pub due : IsKeyIndex (keyed due_key timers) by_due
   pub owner : IsKeyIndex (keyed owner_key_of timers) by_owner
+
+-- timers under their own numbers, and two lists of these
+pub record AreTimers (items : List (ℕ × Timer)) (by_due : List ℕ) (by_owner : List ℕ) : Type 0 where
+  pub numbered : HaveTheirNumbers items
+  pub indexes : HasIndexes (timers_in items) by_due by_owner

@@ -2,25 +2,27 @@
 
 ghost use Rattle.std.specs.Prelude.{◌≡◌, ◌<◌, ℕ, [], ◌∷◌, length, option_copied, IfOk, IfErr, IfSome, IfNone};
 ghost use Rattle.xs_model.specs.Rising.{key_cmp};
+ghost use Rattle.delay_queue.specs.Queue.{HaveTheirNumbers, timer_of, timers_in};
 ghost use Rattle.delay_queue.specs.TimerKeys.{due_key_in, DueKeysRise, id_order, IsDueAt, IsDueGap};
 ghost use Rattle.delay_queue.specs.TimerKeys.{IsNumberOf, IsOwnerAt, IsOwnerGap, NoneIsOf, owner_compared, owner_in, OwnerKeysRise};
 
-use crate::store::Store;
+use office_books::Slots;
 use office_types::Timer;
 use std::cmp::Ordering;
 
 /// Where what is due then, of this number, is among numbers in the order of due, or where it would
 /// go.
 pub(crate) fn search_due(
-    store: &Store,
+    store: &Slots<Timer>,
     numbers: &[u64],
     due: u64,
     order: u64,
 ) -> Result<usize, usize>
-    requires { DueKeysRise store.now.timers numbers.now }
+    requires numbered { HaveTheirNumbers store.now.items }
+    requires rise { DueKeysRise (timers_in store.now.items) numbers.now }
     ensures within { IfOk result (λ place. place < length numbers.now) }
-    ensures found { IfOk result (IsDueAt store.now.timers numbers.now due order) }
-    ensures absent { IfErr result (IsDueGap store.now.timers numbers.now due order) }
+    ensures found { IfOk result (IsDueAt (timers_in store.now.items) numbers.now due order) }
+    ensures absent { IfErr result (IsDueGap (timers_in store.now.items) numbers.now due order) }
 {
     numbers.binary_search_by(|number| compare_due(store, *number, due, order))
 }
@@ -28,32 +30,42 @@ pub(crate) fn search_due(
 /// Where what has this owner, id and number is among numbers by owner and id, or where it would go.
 /// Of what has an id the number doesn't count.
 pub(crate) fn search_owner(
-    store: &Store,
+    store: &Slots<Timer>,
     numbers: &[u64],
     owner: u64,
     id: Option<&[u8]>,
     order: u64,
 ) -> Result<usize, usize>
-    requires { OwnerKeysRise store.now.timers numbers.now }
+    requires numbered { HaveTheirNumbers store.now.items }
+    requires rise { OwnerKeysRise (timers_in store.now.items) numbers.now }
     ensures within { IfOk result (λ place. place < length numbers.now) }
     ensures found { IfOk result
-        (IsOwnerAt store.now.timers numbers.now owner (option_copied id.entry) order) }
+        (IsOwnerAt (timers_in store.now.items) numbers.now owner (option_copied id.entry) order) }
     ensures absent { IfErr result
-        (IsOwnerGap store.now.timers numbers.now owner (option_copied id.entry) order) }
+        (IsOwnerGap (timers_in store.now.items) numbers.now owner (option_copied id.entry) order) }
 {
     numbers.binary_search_by(|number| compare_owner(store, *number, owner, id, order))
 }
 
 /// The number of a timer of an owner, if it has one, among numbers by owner and id.
-pub(crate) fn any_of(store: &Store, numbers: &[u64], owner: u64) -> Option<u64>
-    requires { OwnerKeysRise store.now.timers numbers.now }
-    ensures some { IfSome result (IsNumberOf owner store.now.timers numbers.now) }
-    ensures none { IfNone result (NoneIsOf owner store.now.timers numbers.now) }
+pub(crate) fn any_of(store: &Slots<Timer>, numbers: &[u64], owner: u64) -> Option<u64>
+    requires numbered { HaveTheirNumbers store.now.items }
+    requires rise { OwnerKeysRise (timers_in store.now.items) numbers.now }
+    ensures some { IfSome result (IsNumberOf owner (timers_in store.now.items) numbers.now) }
+    ensures none { IfNone result (NoneIsOf owner (timers_in store.now.items) numbers.now) }
 {
     match numbers.binary_search_by(|number| owner_of(store, *number).cmp(&owner)) {
         Ok(place) => Some(numbers[place]),
         Err(_) => None,
     }
+}
+
+/// The timer of a number, found by halves.
+pub(crate) fn find_timer(store: &Slots<Timer>, order: u64) -> Option<&Timer>
+    requires { HaveTheirNumbers store.now.items }
+    ensures { option_copied result ≡ timer_of order (timers_in store.now.items) }
+{
+    store.find(order)
 }
 
 /// The bytes of a timer's id.
@@ -68,20 +80,29 @@ pub(crate) fn id_of(timer: &Timer) -> Option<&[u8]>
 
 /// How a timer's key stands to that of what is due then, of this number. A timer that isn't there has
 /// the empty key, which is below all others.
-fn compare_due(store: &Store, number: u64, due: u64, order: u64) -> Ordering
-    ensures { result ≡ key_cmp (due_key_in store.now.timers number) (due ∷ order ∷ []) }
+fn compare_due(store: &Slots<Timer>, number: u64, due: u64, order: u64) -> Ordering
+    requires { HaveTheirNumbers store.now.items }
+    ensures { result ≡ key_cmp (due_key_in (timers_in store.now.items) number) (due ∷ order ∷ []) }
 {
-    match store.find(number) {
+    match find_timer(store, number) {
         None => Ordering::Less,
         Some(timer) => timer.due.cmp(&due).then(timer.order.cmp(&order)),
     }
 }
 
 /// How a timer's key stands to that of what has this owner, id and number.
-fn compare_owner(store: &Store, number: u64, owner: u64, id: Option<&[u8]>, order: u64) -> Ordering
-    ensures { result ≡ owner_compared store.now.timers number owner (option_copied id.entry) order }
+fn compare_owner(
+    store: &Slots<Timer>,
+    number: u64,
+    owner: u64,
+    id: Option<&[u8]>,
+    order: u64,
+) -> Ordering
+    requires { HaveTheirNumbers store.now.items }
+    ensures { result
+        ≡ owner_compared (timers_in store.now.items) number owner (option_copied id.entry) order }
 {
-    match store.find(number) {
+    match find_timer(store, number) {
         None => Ordering::Less,
         Some(timer) => timer
             .owner
@@ -104,8 +125,9 @@ fn compare_ids(id: Option<&[u8]>, order: u64, other_id: Option<&[u8]>, other: u6
 }
 
 /// The owner of a timer; 0 where there is none.
-fn owner_of(store: &Store, number: u64) -> u64
-    ensures { result ≡ owner_in store.now.timers number }
+fn owner_of(store: &Slots<Timer>, number: u64) -> u64
+    requires { HaveTheirNumbers store.now.items }
+    ensures { result ≡ owner_in (timers_in store.now.items) number }
 {
-    store.find(number).map_or(0, |timer| timer.owner)
+    find_timer(store, number).map_or(0, |timer| timer.owner)
 }

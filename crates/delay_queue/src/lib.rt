@@ -2,7 +2,6 @@
 #![tactic(auto)]
 
 mod keys;
-mod store;
 #[cfg(test)]
 mod tests;
 mod timers;

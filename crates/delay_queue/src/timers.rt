@@ -8,8 +8,8 @@ ghost use Rattle.office_types.specs.Timers.{beside, due_by, not_due, with_schedu
 ghost use Rattle.delay_queue.specs.Queue.{due_of, falls_due, is_owned, IsOneOf, timer_of, without_number};
 ghost use Rattle.delay_queue.specs.TimerKeys.{keyed, owner_key_of};
 
-use crate::keys::{any_of, id_of, search_due, search_owner};
-use crate::store::Store;
+use crate::keys::{any_of, find_timer, id_of, search_due, search_owner};
+use office_books::Slots;
 use office_types::{Timer, TimerList, copy_timer};
 use std::alloc::{AllocError, Global};
 use std::marker::Model;
@@ -21,7 +21,7 @@ pub type Due = TimerList;
 #[derive(Debug, Drop)]
 pub struct Timers {
     /// By their numbers.
-    store: Store,
+    store: Slots<Timer>,
     /// Their numbers, in the order of due.
     by_due: Vec<u64>,
     /// Their numbers, by owner and id.
@@ -31,7 +31,7 @@ pub struct Timers {
 impl Model for Timers {
     ghost use Rattle.office_books.specs.Books.{vec_room};
     ghost use Rattle.std.specs.Coded.{codes};
-    ghost use Rattle.delay_queue.specs.Queue.{HasIndexes, TimerQueue, queue_with_room};
+    ghost use Rattle.delay_queue.specs.Queue.{AreTimers, TimerQueue, queue_with_room, timers_in};
     ghost use Rattle.xs_model.specs.contracts.value.Value as value;
 
     ghost Value = { TimerQueue };
@@ -39,9 +39,10 @@ impl Model for Timers {
     ghost coded = { Prim.hlevel (codes, value.the_row.coded) };
 
     ghost view = { λ q.
-        queue_with_room q.store.timers q.store.spare (vec_room q.by_due) (vec_room q.by_owner) };
+        queue_with_room (timers_in q.store.items) q.store.spare (vec_room q.by_due)
+        (vec_room q.by_owner) };
 
-    ghost invariant = { λ q. HasIndexes q.store.timers q.by_due.items q.by_owner.items };
+    ghost invariant = { λ q. AreTimers q.store.items q.by_due.items q.by_owner.items };
 }
 
 impl Timers {
@@ -50,7 +51,7 @@ impl Timers {
         ensures { result.timers ≡ [] }
     {
         Timers {
-            store: Store::new(alloc),
+            store: Slots::new(alloc),
             by_due: Vec::new(alloc),
             by_owner: Vec::new(alloc),
         }
@@ -165,7 +166,7 @@ impl Timers {
     fn find_due(&self, order: u64, moment: u64) -> Option<&Timer>
         ensures { option_copied result ≡ due_of moment (timer_of order self.now.timers) }
     {
-        match self.store.find(order) {
+        match find_timer(&self.store, order) {
             Some(timer) if timer.due <= moment => Some(timer),
             _ => None,
         }
@@ -186,7 +187,7 @@ impl Timers {
         ensures timers { self.new.timers ≡ without_number order self.old.timers }
         ensures keeps_room { self.old.spare ≤ self.new.spare }
     {
-        let Some(timer) = self.store.find(order) else {
+        let Some(timer) = find_timer(&self.store, order) else {
             return;
         };
         let Ok(rank) = search_due(&self.store, self.by_due.as_slice(), timer.due, order) else {
@@ -204,7 +205,7 @@ impl Timers {
         };
         let _ = self.by_due.remove(rank);
         let _ = self.by_owner.remove(place);
-        self.store.take(order);
+        let _ = self.store.take(order);
     }
 
     /// Adds a timer that is newer than all others, where there is room and none of its owner and id.
@@ -230,7 +231,7 @@ impl Timers {
         ) else {
             unreachable!()
         };
-        self.store.push(timer);
+        self.store.push(order, timer);
         let _ = self.by_due.insert(rank, order);
         let _ = self.by_owner.insert(place, order);
     }

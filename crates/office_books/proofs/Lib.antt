@@ -1,3 +1,4 @@
 pub mod SortedLemmas
 pub mod ItemLemmas
 pub mod KeyIndexLemmas
+pub mod SlotLemmas

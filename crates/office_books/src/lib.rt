@@ -3,8 +3,10 @@
 
 mod items;
 mod registry;
+mod slots;
 #[cfg(test)]
 mod tests;
 
 pub use items::Items;
 pub use registry::Registry;
+pub use slots::{SlotItems, Slots};
