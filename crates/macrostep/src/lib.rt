@@ -6,6 +6,8 @@ pub mod laws;
 mod limits;
 mod outcomes;
 mod runs;
+#[cfg(test)]
+mod tests;
 mod trail;
 
 pub use completion::{begin, macrostep};
