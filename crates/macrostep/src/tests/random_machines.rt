@@ -347,11 +347,11 @@ fn agrees(rt: &impl Abort, alloc: Global, seed: u64) -> Result<bool, Fail> {
 #[test]
 fn agree_with_the_plain_interpreter(rt: HostRuntime) -> Result<(), Fail> {
     let mut machines: u32 = 0;
-    for number in 0..150 {
+    for number in 0..50 {
         if agrees(&rt, rt.alloc(), number)? {
             machines = machines.saturating_add(1);
         }
     }
-    assert!(rt; machines >= 100, "{machines} machines");
+    assert!(rt; machines >= 35, "{machines} machines");
     Ok(())
 }
