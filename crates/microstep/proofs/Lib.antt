@@ -15,6 +15,7 @@ pub mod MoveLemmas
 pub mod MovedLemmas
 pub mod PartLemmas
 pub mod PatternLemmas
+pub mod RecordingLemmas
 pub mod StepLemmas
 pub mod TakenLemmas
 pub mod TurnLemmas

@@ -22,6 +22,7 @@ mod picks;
 mod places;
 mod progress;
 mod reading;
+mod recording;
 mod selection;
 mod sending;
 mod spawning;

@@ -8,17 +8,20 @@ ghost use Rattle.step_sets.specs.Sets.{IsSetOf};
 ghost use Rattle.guard_eval.specs.Definitions.{IsWellFormed};
 ghost use Rattle.office_types.specs.OwnParts.{HasBegun};
 ghost use Rattle.microstep.specs.Micro.{Enters, IsFirstMove, IsMove, IsMovedByOne, Leaves};
+ghost use Rattle.microstep.specs.Progress.{progress_of};
 ghost use Rattle.microstep.specs.Selection.{MovesIn, transition_at};
 ghost use Rattle.microstep.specs.Taking.{transitions_at};
 
 use crate::micro::Picked;
 use crate::node_sets::{union, without};
 use crate::places::transition_at;
+use crate::progress::Progress;
+use crate::recording::recorded_after;
 use guard_eval::{Def, Transition};
 use node_tree::{NodeSet, Recorded, Targets};
 use office_types::Own;
 use std::alloc::{AllocError, Global};
-use step_sets::{Domain, domain, entry_set, exit_set, goals, record_history};
+use step_sets::{Domain, domain, entry_set, exit_set, goals};
 use xs_data::Items;
 
 /// What the configuration of an actor comes to.
@@ -34,33 +37,46 @@ pub(crate) struct Move {
     pub configuration: Targets,
 }
 
-/// The move that these transitions make, taken together. History is recorded before the nodes are
-/// left. It costs what is active, left, recorded and entered.
+/// The move that these transitions make, taken together, and what is done so far where nothing is
+/// done yet. History is recorded before the nodes are left. It costs what is active, left and
+/// entered, and where something is recorded the records too; the own part is used up and not copied.
 pub(crate) fn move_of(
     alloc: Global,
     def: &Def,
-    own: &Own,
+    own: Own,
     picked: &Picked,
-) -> Result<Move, AllocError>
+) -> Result<(Move, Progress), AllocError>
     requires well_formed { (actors : ℕ) × IsWellFormed actors def.now }
-    requires begun { HasBegun def.now.tree own.now }
-    ensures { IfOk result (IsMove def.now own.now (transitions_at def.now picked.now)) }
+    requires begun { HasBegun def.now.tree own }
+    ensures moves { IfOk result
+        (λ made. IsMove def.now own (transitions_at def.now picked.now) made.0) }
+    ensures progress { IfOk result (λ made. made.1 ≡ progress_of own) }
 {
     let tree = &def.tree;
     let _nodes = tree.len();
-    let active = NodeSet::of(alloc, tree, own.nodes.as_slice())?;
+    let Own {
+        nodes,
+        history,
+        context,
+        children,
+        unnamed,
+        ..
+    } = own;
+    let active = NodeSet::from_rising(nodes);
     let places = picked.taken.as_slice();
     let left = left_by_all(alloc, def, &active, picked.eventless, places)?;
-    let history = record_history(alloc, tree, &active, &left, &own.history)?;
+    let history = recorded_after(alloc, tree, &active, &left, history)?;
     let entered = entered_by_all(alloc, def, &history, picked.eventless, places)?;
-    let kept = without(alloc, own.nodes.as_slice(), &left)?;
+    let kept = without(alloc, active.as_slice(), &left)?;
     let configuration = Items::from_vec(union(alloc, kept, entered.as_slice())?);
-    Ok(Move {
+    let made = Move {
         left,
         history,
         entered,
         configuration,
-    })
+    };
+    let progress = Progress::new(alloc, context, children, unnamed);
+    Ok((made, progress))
 }
 
 /// The first move: the root is entered. It costs what is entered.

@@ -1,6 +1,6 @@
 //! What a microstep has done so far.
 
-ghost use Rattle.std.specs.Prelude.{◌≡◌, Ok};
+ghost use Rattle.std.specs.Prelude.{◌≡◌, [], Ok};
 ghost use Rattle.std.specs.List.{list_any};
 ghost use Rattle.std.specs.Str.{bytes_eq};
 ghost use Rattle.office_types.specs.Outcomes.{children_after};
@@ -31,6 +31,27 @@ pub(crate) struct Progress {
 }
 
 impl Progress {
+    /// What is done so far where nothing is done yet.
+    pub(crate) fn new(alloc: Global, context: Value, children: Texts, unnamed: u64) -> Progress
+        ensures { result ≡ record {
+          context = context;
+          children = children;
+          unnamed = unnamed;
+          raised = [];
+          effects = [];
+          actions = 0;
+        } }
+    {
+        Progress {
+            context,
+            children,
+            unnamed,
+            raised: Items::new(alloc),
+            effects: Items::new(alloc),
+            actions: 0,
+        }
+    }
+
     /// Counts an action.
     pub(crate) fn count(&mut self)
         ensures { self.new ≡ counted self.old }

@@ -48,8 +48,9 @@ pub fn microstep(
     advance(alloc, def, own, picked, event)
 }
 
-/// As [`microstep`], of an own part that is used up. It costs what it touches: the nodes that are
-/// left and entered, and the actions.
+/// As [`microstep`], of an own part that is used up. It costs what it touches: the active nodes, those
+/// that are left, with their children, and those that are entered, and the actions. What is recorded
+/// for history nodes is handed on as it lies, unless something is recorded: then each record is moved.
 pub fn advance(
     alloc: Global,
     def: &Def,
@@ -67,8 +68,7 @@ pub fn advance(
 {
     let _nodes = def.tree.len();
     let number = own.def;
-    let made = move_of(alloc, def, &own, picked)?;
-    let mut progress = progress_of(alloc, own);
+    let (made, mut progress) = move_of(alloc, def, own, picked)?;
     act(alloc, def, event, picked, &made, &mut progress)?;
     ended(alloc, def, event, number, made, progress)
 }
@@ -118,39 +118,12 @@ pub fn machine_output(
     output(alloc, def, own.nodes.as_slice(), event, &own.context)
 }
 
-/// What is done so far where nothing is done yet, for an own part.
-fn progress_of(alloc: Global, own: Own) -> Progress
-    ensures { result ≡ progress_of own }
-{
-    let Own {
-        context,
-        children,
-        unnamed,
-        ..
-    } = own;
-    Progress {
-        context,
-        children,
-        unnamed,
-        raised: Items::new(alloc),
-        effects: Items::new(alloc),
-        actions: 0,
-    }
-}
-
 /// What is done so far where an actor begins with this context.
 fn progress_with(alloc: Global, context: Value) -> Progress
     ensures { (number : ℕ)
         → result ≡ record (progress_of (fresh_own number)) { context = context } }
 {
-    Progress {
-        context,
-        children: Items::new(alloc),
-        unnamed: 0,
-        raised: Items::new(alloc),
-        effects: Items::new(alloc),
-        actions: 0,
-    }
+    Progress::new(alloc, context, Items::new(alloc), 0)
 }
 
 /// What is done up to the new configuration: nodes are left, the transitions act, nodes are
