@@ -259,13 +259,13 @@ module _ (timers : List Timer) (by_due by_owner : List ℕ) (indexes : HasIndexe
     entry : IsIn (get_or by_owner rank d) by_owner × (owner_key_in timers (get_or by_owner rank d) ≡ owner_key owner (Some id) 0)
     entry = at_key equal_bytes (owner_key_in timers) by_owner (owner_key owner (Some id) 0) rank d at
 
-    held : IsIn (owner_key owner (Some id) 0, get_or by_owner rank d) (keyed owner_key_of timers)
-    held = subst (λ (k : List ℕ). IsIn (k, get_or by_owner rank d) (keyed owner_key_of timers)) entry.1 (indexes.owner.has_only (get_or by_owner rank d) entry.0)
+    pub held_key : IsIn (owner_key owner (Some id) 0, get_or by_owner rank d) (keyed owner_key_of timers)
+    held_key = subst (λ (k : List ℕ). IsIn (k, get_or by_owner rank d) (keyed owner_key_of timers)) entry.1 (indexes.owner.has_only (get_or by_owner rank d) entry.0)
 
     agree : (t : Timer) → IsIn t timers → (b : Bool) → has_id owner id t ≡ b → nat_eq t.order (get_or by_owner rank d) ≡ b
     agree t is_in true e =
         eq-eqb t.order (get_or by_owner rank d)
-        (one_holder (keyed owner_key_of timers) by_owner indexes.owner (owner_key owner (Some id) 0) t.order (get_or by_owner rank d) (has_owner_key owner id t is_in e) held)
+        (one_holder (keyed owner_key_of timers) by_owner indexes.owner (owner_key owner (Some id) 0) t.order (get_or by_owner rank d) (has_owner_key owner id t is_in e) held_key)
     agree t is_in false e =
         other_number t.order (get_or by_owner rank d) (λ same.
         let own : owner_key_in timers t.order ≡ owner_key_of t = name_in (keyed owner_key_of timers) (owner_key_of t, t.order) indexes.owner.numbers_rise (keyed_in owner_key_of timers t is_in) in

@@ -1,6 +1,6 @@
 //! Numbers of timers, in the order of due, and by owner and id.
 
-ghost use Rattle.std.specs.Prelude.{◌≡◌, ◌<◌, ℕ, [], ◌∷◌, length, option_copied, IfOk, IfErr, IfSome, IfNone};
+ghost use Rattle.std.specs.Prelude.{◌≡◌, ◌<◌, ℕ, [], ◌∷◌, length, filter, nat_eq, option_copied, IfOk, IfErr, IfSome, IfNone};
 ghost use Rattle.xs_model.specs.Rising.{key_cmp};
 ghost use Rattle.delay_queue.specs.Queue.{HaveTheirNumbers, timer_of, timers_in};
 ghost use Rattle.delay_queue.specs.TimerKeys.{due_key_in, DueKeysRise, id_order, IsDueAt, IsDueGap};
@@ -58,6 +58,19 @@ pub(crate) fn any_of(store: &Slots<Timer>, numbers: &[u64], owner: u64) -> Optio
         Ok(place) => Some(numbers[place]),
         Err(_) => None,
     }
+}
+
+/// How many numbers, by owner and id, are those of timers of an owner.
+pub(crate) fn count_owned(store: &Slots<Timer>, numbers: &[u64], owner: u64) -> usize
+    requires numbered { HaveTheirNumbers store.now.items }
+    requires rise { OwnerKeysRise (timers_in store.now.items) numbers.now }
+    ensures { result
+        ≡ length (filter (λ number. nat_eq (owner_in (timers_in store.now.items) number) owner)
+        numbers.now) }
+{
+    let begin = numbers.partition_point(|number| owner_of(store, *number) < owner);
+    let end = numbers.partition_point(|number| owner_of(store, *number) <= owner);
+    end - begin
 }
 
 /// The timer of a number, found by halves.

@@ -1,14 +1,14 @@
 //! The timers of an office.
 
-ghost use Rattle.std.specs.Prelude.{◌≡◌, ◌+◌, ◌<◌, ◌≤◌, [], ◌∷◌, ◌++◌, None, length, option_copied, IfNone, IfSome, IfOk, IfErr, OnOk, OnErr, IsOk};
-ghost use Rattle.std.specs.List.{All};
+ghost use Rattle.std.specs.Prelude.{◌≡◌, ◌+◌, ◌<◌, ◌≤◌, [], ◌∷◌, ◌++◌, None, length, filter, option_copied, IfNone, IfSome, IfOk, IfErr, OnOk, OnErr, IsOk};
+ghost use Rattle.std.specs.List.{All, list_any};
 ghost use Rattle.office_types.specs.declared.office.Timer.{Timer};
 ghost use Rattle.office_types.specs.SystemNames.{holder_of};
-ghost use Rattle.office_types.specs.Timers.{beside, due_by, not_due, with_scheduled, without_id, without_owner};
+ghost use Rattle.office_types.specs.Timers.{beside, due_by, has_id, not_due, with_scheduled, without_id, without_owner};
 ghost use Rattle.delay_queue.specs.Queue.{due_of, falls_due, is_owned, IsOneOf, timer_of, without_number};
 ghost use Rattle.delay_queue.specs.TimerKeys.{keyed, owner_key_of};
 
-use crate::keys::{any_of, find_timer, id_of, search_due, search_owner};
+use crate::keys::{any_of, count_owned, find_timer, id_of, search_due, search_owner};
 use office_books::Slots;
 use office_types::{Timer, TimerList, copy_timer};
 use std::alloc::{AllocError, Global};
@@ -104,6 +104,32 @@ impl Timers {
             let order = self.by_owner[rank];
             self.remove(order);
         }
+    }
+
+    /// Whether an owner has a timer of an id. It is found by halves.
+    pub fn has_id(&self, owner: u64, id: &[u8]) -> bool
+        ensures { result ≡ list_any (has_id owner id.now) self.now.timers }
+    {
+        let numbers = self.by_owner.as_slice();
+        search_owner(&self.store, numbers, owner, Some(id), 0).is_ok()
+    }
+
+    /// Copies of all timers, by their numbers. It costs as much as they are large.
+    pub fn copies(&self, alloc: Global) -> Result<TimerList, AllocError>
+        ensures { IfOk result (λ made. made ≡ self.now.timers) }
+    {
+        let mut copies = Vec::with_capacity(alloc, self.store.len())?;
+        for (_, timer) in self.store.iter() {
+            copies.push(copy_timer(alloc, timer)?)?;
+        }
+        Ok(TimerList::from_vec(copies))
+    }
+
+    /// How many timers an owner has. They are found by halves.
+    pub fn count_of(&self, owner: u64) -> u64
+        ensures { result ≡ length (filter (is_owned owner) self.now.timers) }
+    {
+        count_owned(&self.store, self.by_owner.as_slice(), owner) as u64
     }
 
     /// Takes out all timers of an actor, each found by halves.

@@ -94,6 +94,13 @@ impl Registry {
         let _ = self.holders.remove(place);
     }
 
+    /// Lends the names that are held, by the numbers of their actors.
+    pub fn list(&self) -> &[(Text, u64)]
+        ensures { result.now ≡ self.now.names }
+    {
+        self.holders.as_slice()
+    }
+
     /// Which actor holds a name. It is found by halves.
     pub fn held(&self, name: &[u8]) -> Option<u64>
         ensures { result ≡ holder_of name.now self.now.names }
