@@ -1,0 +1,16 @@
+mod TokenLemmas
+mod SnapshotLemmas
+mod WorkedTextLemmas
+mod ListLemmas
+mod KeyLemmas
+mod ReplyLemmas
+mod OrderLemmas
+mod LookupLemmas
+mod DistinctLemmas
+mod ConfigurationLemmas
+mod RegionLemmas
+mod ExtensionLemmas
+mod FitLemmas
+mod RecordLemmas
+mod DefinitionLemmas
+mod ParentLemmas
