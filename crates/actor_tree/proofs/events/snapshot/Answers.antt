@@ -1,0 +1,5 @@
+use Rattle.std.proofs.Common.{refl}
+use Rattle.actor_tree.proofs.events.snapshot.Goals as goal
+
+pub returns : goal.returns
+returns c = rw (c.in_ok-put-2.ensures, c.in_ok-put.ensures, c.new-fields.ensures) refl

@@ -1,0 +1,11 @@
+use Rattle.std.proofs.Common.{sym}
+use Rattle.actor_tree.specs.Following.{head_number}
+use Rattle.actor_tree.proofs.RecordLemmas.{part_of, part_of_none}
+use Rattle.actor_tree.proofs.held.Held.head_number.Goals as goal
+
+pub returns-in_err-find : goal.returns-in_err-find
+returns-in_err-find c = rw (c.from_residual.ensures, ← c.self.view_is) (sym (part_of_none head_number c.args.number c.self.inside.actors.items (sym c.in_err-find.ensures)))
+
+pub returns : goal.returns
+returns c =
+    rw (c.head_number.ensures c.args.number, ← c.self.view_is) (sym (part_of head_number c.args.number c.self.inside.actors.items c.in_ok-find.field-0.now (sym c.in_ok-find.ensures)))
