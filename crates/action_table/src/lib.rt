@@ -7,8 +7,6 @@ mod copies;
 mod def_list;
 mod definitions;
 mod defs_fault;
-#[cfg(test)]
-mod defs_tests;
 mod fault;
 mod first;
 mod forms;
@@ -23,18 +21,12 @@ mod machine_ids;
 mod outer_shape;
 mod parts;
 mod read;
-#[cfg(test)]
-mod read_tests;
 mod reading;
 mod role;
 mod rows;
 mod table;
-#[cfg(test)]
-mod tests;
 mod unnamed;
 mod unnamed_forms;
-#[cfg(test)]
-mod whole_tests;
 
 pub use def_list::DefList;
 pub use definitions::{Actor, ActorList, Defs};

@@ -34,5 +34,3 @@ mod unfit;
 pub use asks::AskRefused;
 pub use forest::{Change, Forest};
 
-#[cfg(test)]
-mod tests;

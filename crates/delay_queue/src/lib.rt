@@ -2,8 +2,6 @@
 #![tactic(auto)]
 
 mod keys;
-#[cfg(test)]
-mod tests;
 mod timers;
 
 pub use timers::{Due, Timers};

@@ -70,8 +70,6 @@ mod parts;
 mod reading;
 mod records;
 mod scan;
-#[cfg(test)]
-mod tests;
 mod window;
 
 pub use held::{Held, Layout, Places};

@@ -5,8 +5,6 @@ mod def;
 mod guard;
 mod guard_value;
 pub mod laws;
-#[cfg(test)]
-mod tests;
 mod transition;
 
 pub use def::{Def, Delays, Invocation, Invocations, NodeDef, NodeDefs, Texts};

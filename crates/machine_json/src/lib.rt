@@ -5,8 +5,6 @@ mod actions;
 mod clash;
 mod defaults;
 mod delays;
-#[cfg(test)]
-mod expression_tests;
 mod expressions;
 mod fault;
 mod field;
@@ -18,17 +16,11 @@ mod invocations;
 mod key;
 mod kind_word;
 pub mod laws;
-#[cfg(test)]
-mod link_fault_tests;
 mod links;
 mod machine;
 mod node_meaning;
 mod nodes;
 mod reading;
-#[cfg(test)]
-mod reading_tests;
-#[cfg(test)]
-mod refused_tests;
 mod role;
 mod role_value;
 mod rows;

@@ -6,8 +6,6 @@ pub mod laws;
 mod limits;
 mod outcomes;
 mod runs;
-#[cfg(test)]
-mod tests;
 mod trail;
 
 pub use completion::{begin, macrostep};

@@ -12,8 +12,6 @@ mod node_set;
 mod order;
 mod outline;
 mod resolve;
-#[cfg(test)]
-mod tests;
 mod tree;
 
 pub use fault::{OutlineFault, TreeFault};

@@ -4,8 +4,6 @@
 mod items;
 mod registry;
 mod slots;
-#[cfg(test)]
-mod tests;
 
 pub use items::Items;
 pub use registry::Registry;

@@ -204,6 +204,3 @@ fn are_distinct(alloc: Global, machines: &[FlatMachine]) -> Result<bool, AllocEr
     }
     Ok(true)
 }
-
-#[cfg(test)]
-mod tests;

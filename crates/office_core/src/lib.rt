@@ -8,8 +8,6 @@ mod office;
 mod places;
 mod request;
 mod request_line;
-#[cfg(test)]
-mod tests;
 
 pub use flat::{FlatMachine, FlatMachines, FlatState, FlatStates, FlatTransition, FlatTransitions};
 pub use flat_text::{FlatFault, read_flat};

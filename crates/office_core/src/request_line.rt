@@ -254,6 +254,3 @@ fn first_space(bytes: &[u8]) -> Option<usize>
 {
     bytes.iter().position(|byte| *byte == b' ')
 }
-
-#[cfg(test)]
-mod tests;

@@ -10,8 +10,6 @@ mod program;
 mod replies;
 mod script;
 mod status;
-#[cfg(test)]
-mod tests;
 
 pub use command::{Command, WordsFault, words};
 pub use definitions::MAX_DEFINITIONS_TAKEN;

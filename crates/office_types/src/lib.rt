@@ -37,5 +37,3 @@ pub use request::{Ask, Replies, Reply, Request, Word};
 pub use request_line::{read_request, write_request};
 pub use state_values::state_value;
 
-#[cfg(test)]
-mod tests;

@@ -12,8 +12,6 @@ mod members;
 mod mode;
 mod reader;
 mod spell;
-#[cfg(test)]
-mod tests;
 mod whole;
 
 pub use fault::JsonFault;

@@ -14,5 +14,3 @@ pub use base_text::write_office;
 pub use snapshot::deep;
 pub use validity::is_valid_office;
 
-#[cfg(test)]
-mod tests;

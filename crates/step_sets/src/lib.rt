@@ -12,8 +12,6 @@ mod nodes;
 mod preemption;
 mod runs;
 mod targets;
-#[cfg(test)]
-mod tests;
 mod transition_domain;
 mod types;
 

@@ -17,8 +17,6 @@ mod nesting;
 mod operators;
 mod paths;
 mod size;
-#[cfg(test)]
-mod tests;
 mod value;
 
 pub use action::{Action, ActionItem, ActionItems, Target};

@@ -7,8 +7,6 @@ mod disk;
 mod memory;
 mod station;
 mod streams;
-#[cfg(test)]
-mod tests;
 
 pub use disk::Disk;
 pub use memory::crash::{Image, Images};

@@ -1,0 +1,5 @@
+//! A forest of actors: each call once.
+#![tactic(auto)]
+
+#[cfg(test)]
+mod tests;

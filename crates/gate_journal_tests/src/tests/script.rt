@@ -1,0 +1,185 @@
+//! Scripts of calls, and what a journal should hold after them, as plain numbers.
+
+ghost use Rattle.std.specs.Prelude.{IsTrue, IfOk, OnOk};
+ghost use Rattle.gate_journal.specs.InUse.{IsInUse};
+ghost use Rattle.gate_journal.specs.Journal.{disk_of};
+
+use super::kit::{append_to, drop_from, switch_to};
+use gate_journal::{Held, Journal};
+use std::alloc::{AllocError, Global};
+use xs_outside::Disk;
+
+/// A call. The text of a record or a base is made from its number.
+#[derive(Clone, Copy, Debug)]
+pub enum Step {
+    Append(u64),
+    DropLast,
+    Switch(u64),
+}
+
+/// What a journal should hold: numbers of texts.
+#[derive(Debug, Drop)]
+pub struct Plain {
+    pub generation: u64,
+    pub base: u64,
+    pub records: Vec<u64>,
+    pub knows_last: bool,
+}
+
+impl Plain {
+    pub fn new(alloc: Global) -> Plain {
+        Plain {
+            generation: 0,
+            base: 0,
+            records: Vec::new(alloc),
+            knows_last: false,
+        }
+    }
+
+    pub fn copy(&self) -> Result<Plain, AllocError> {
+        Ok(Plain {
+            generation: self.generation,
+            base: self.base,
+            records: self.records.clone()?,
+            knows_last: self.knows_last,
+        })
+    }
+
+    /// What it is after a call.
+    pub fn after(&self, step: Step) -> Result<Plain, AllocError> {
+        let mut after = self.copy()?;
+        match step {
+            Step::Append(number) => after.records.push(number)?,
+            Step::DropLast => {
+                let _ = after.records.pop();
+            }
+            Step::Switch(number) => {
+                after.generation = self.generation.saturating_add(1);
+                after.base = number;
+                after.records.clear();
+            }
+        }
+        after.knows_last = matches!(step, Step::Append(_));
+        Ok(after)
+    }
+
+    /// Whether this is held.
+    pub fn is_held(&self, held: &Option<Held>) -> Result<bool, AllocError> {
+        match held {
+            None => Ok(self.generation == 0),
+            Some(held) => {
+                let alloc = *self.records.allocator();
+                if held.generation != self.generation
+                    || held.records.len() != self.records.len()
+                    || !is_text(alloc, self.base, held.base.as_slice())?
+                {
+                    return Ok(false);
+                }
+                for (place, number) in self.records.iter().enumerate() {
+                    match held.records.get(place) {
+                        Some(record) if is_text(alloc, *number, record)? => {}
+                        _ => return Ok(false),
+                    }
+                }
+                Ok(true)
+            }
+        }
+    }
+}
+
+/// Texts of 1 to 29 bytes, among which are 0, 1 and other gates.
+pub fn text_of(alloc: Global, number: u64) -> Result<Vec<u8>, AllocError> {
+    let mut text = Vec::new(alloc);
+    for place in 0..1 + number % 29 {
+        text.push((number.wrapping_mul(place | 1) % 7) as u8)?;
+    }
+    Ok(text)
+}
+
+fn is_text(alloc: Global, number: u64, bytes: &[u8]) -> Result<bool, AllocError> {
+    Ok(text_of(alloc, number)?.as_slice() == bytes)
+}
+
+/// A random script of calls that may be made of an empty disk, each in its turn. It begins with a move.
+pub fn script(alloc: Global, seed: u64, length: u64) -> Result<Vec<Step>, AllocError> {
+    let mut steps = Vec::new(alloc);
+    let mut random = seed;
+    let mut knows_last = false;
+    for number in 0..length {
+        random = random
+            .wrapping_mul(6_364_136_223_846_793_005)
+            .wrapping_add(1_442_695_040_888_963_407);
+        let step = match (random >> 33) % 8 {
+            _ if number == 0 => Step::Switch(number),
+            0 => Step::Switch(number),
+            1 | 2 | 3 if knows_last => Step::DropLast,
+            _ => Step::Append(number),
+        };
+        knows_last = matches!(step, Step::Append(_));
+        steps.push(step)?;
+    }
+    Ok(steps)
+}
+
+/// Makes a call, and tells whether it was done.
+pub fn make<D: Disk>(
+    alloc: Global,
+    journal: &mut Journal<D>,
+    step: Step,
+) -> Result<bool, AllocError>
+    requires { IsInUse (D.state (disk_of journal.old)) journal.old }
+    ensures { IfOk result
+        (λ done. IsTrue done → IsInUse (D.state (disk_of journal.new)) journal.new) }
+{
+    match step {
+        Step::Append(number) => {
+            let payload = text_of(alloc, number)?;
+            Ok(append_to(journal, &payload))
+        }
+        Step::DropLast => Ok(drop_from(journal)),
+        Step::Switch(number) => {
+            let base = text_of(alloc, number)?;
+            Ok(switch_to(journal, &base))
+        }
+    }
+}
+
+/// How far a script came: what should be held before the call that failed, and after it, and how
+/// many calls were done. Where none failed, both are what should be held at the end.
+#[derive(Debug, Drop)]
+pub struct Stop {
+    pub before: Plain,
+    pub after: Plain,
+    pub done: usize,
+}
+
+/// Makes the calls of a script until one fails, where this is held.
+pub fn run<D: Disk>(
+    alloc: Global,
+    journal: &mut Journal<D>,
+    steps: &[Step],
+    held: Plain,
+) -> Result<Stop, AllocError>
+    requires { IsInUse (D.state (disk_of journal.old)) journal.old }
+{
+    let mut before = held;
+    let mut done: usize = 0;
+    for step in steps {
+        let after = before.after(*step)?;
+        if !make(alloc, journal, *step)? {
+            return Ok(Stop {
+                before,
+                after,
+                done,
+            });
+        }
+        before = after;
+        done = done.saturating_add(1);
+    }
+    let after = before.copy()?;
+    Ok(Stop {
+        before,
+        after,
+        done,
+    })
+}

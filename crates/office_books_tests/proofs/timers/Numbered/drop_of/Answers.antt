@@ -1,0 +1,12 @@
+use Rattle.std.proofs.Common.{◌<◌, not, nat_eq}
+use Rattle.std.proofs.lemmas.List.Elements.{All-filter}
+use Rattle.office_types.specs.declared.office.Timer.{Timer}
+use Rattle.office_books_tests.proofs.timers.Numbered.drop_of.Goals as goal
+
+pub invariant_of-self : goal.invariant_of-self
+invariant_of-self c =
+    let timers = c.args.self.now.timers.timers in
+    let next = c.args.self.now.next in
+    record {
+      newer = rw c.drop_of.ensures.timers (All-filter (λ (timer : Timer). not (nat_eq timer.owner c.args.owner)) (λ (timer : Timer). timer.order < next) timers c.args.self.now.newer);
+    }

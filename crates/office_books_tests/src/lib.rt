@@ -1,0 +1,7 @@
+//! Names, items and timers: each call once, and long scripts beside plain lists.
+#![tactic(auto)]
+
+#[cfg(test)]
+mod books;
+#[cfg(test)]
+mod timers;

@@ -1,0 +1,5 @@
+//! Whole scripts with what they print.
+#![tactic(auto)]
+
+#[cfg(test)]
+mod tests;

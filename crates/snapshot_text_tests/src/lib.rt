@@ -1,0 +1,5 @@
+//! Base texts beside given bytes.
+#![tactic(auto)]
+
+#[cfg(test)]
+mod tests;
