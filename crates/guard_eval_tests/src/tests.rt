@@ -6,78 +6,112 @@ ghost use Rattle.std.specs.List.Sorted.{IsStrictlyIncreasing};
 use guard_eval::*;
 use sqlite_items::Boxed;
 use std::alloc::Global;
-use std::test::Fail;
 use xs_data::{Items, Text};
 use xs_model::{Binary, Division, Env, EvalFault, Expr, PathRoot, Value};
 
-/// A part of a guard.
-#[derive(Clone, Copy, Debug)]
-enum Part {
-    True,
-    False,
-    /// A test that gives a number.
-    Number,
-    /// A test of a path that leads to nothing.
-    Missing,
-    /// A test that divides by zero.
-    OutOfRange,
-    /// A test that gives its own params, which are this truth value.
-    Params(bool),
-    /// A test that gives the context, which is a truth value.
-    Context,
-    In(u32),
+/// The active nodes of the cases.
+const ACTIVE: [u32; 3] = [0, 2, 5];
+
+/// Guards, and what they give where the nodes 0, 2 and 5 are active, the context is true and the
+/// params of the environment are a number. A guard is its form and the words of its parts.
+const CASES: &str = "\
+and: => true
+and: true => true
+and: false => false
+and: true true => true
+and: true false => false
+and: false missing => false
+and: missing false => Missing
+and: true range missing => Range
+and: number => Kind
+and: number false => Kind
+and: false number => false
+and: missing number => Missing
+or: => false
+or: true => true
+or: false => false
+or: false false => false
+or: false true => true
+or: true missing => true
+or: missing true => Missing
+or: false range true => Range
+or: number true => Kind
+or: true number => true
+not and: => false
+not and: false => true
+not and: true true => false
+not and: false missing => true
+not and: missing => Missing
+not and: number => Kind
+and: in-0 in-2 in-5 => true
+or: in-1 in-3 in-4 => false
+or: in-6 in-4294967295 => false
+and: in-2 in-1 => false
+or: in-1 in-5 => true
+and: params-true => true
+and: params-false => false
+and: params-true context params-true => true
+or: params-false context => true
+not and: context in-2 => false";
+
+/// A division by zero.
+fn quotient(alloc: Global) -> Result<Expr, EvalFault> {
+    let one = Boxed::new(alloc, Expr::Int(1))?;
+    let zero = Boxed::new(alloc, Expr::Int(0))?;
+    Ok(Expr::Binary(Binary::Division(Division::Div), one, zero))
 }
 
-/// A guard around parts.
-#[derive(Clone, Copy, Debug)]
-enum Form {
-    And,
-    Or,
-    /// `not` of an `and`.
-    NotAnd,
-}
-
-fn expr(alloc: Global, part: Part) -> Result<Expr, EvalFault> {
-    match part {
-        Part::Number => Ok(Expr::Int(1)),
-        Part::Missing => Ok(Expr::Path(PathRoot::Event, Text::from_str(alloc, "none")?)),
-        Part::OutOfRange => {
-            let one = Boxed::new(alloc, Expr::Int(1))?;
-            let zero = Boxed::new(alloc, Expr::Int(0))?;
-            Ok(Expr::Binary(Binary::Division(Division::Div), one, zero))
-        }
-        Part::Params(_) => Ok(Expr::Path(PathRoot::Params, Text::new(alloc))),
-        Part::Context => Ok(Expr::Path(PathRoot::Context, Text::new(alloc))),
-        Part::True => Ok(Expr::Bool(true)),
-        Part::False | Part::In(_) => Ok(Expr::Bool(false)),
+/// What a test evaluates: for `missing` a path that leads to nothing, for `range` a division by
+/// zero, for `context` the context, and for `params-true` and `params-false` its own params.
+fn expr(alloc: Global, word: &str) -> Result<Expr, EvalFault> {
+    match word {
+        "true" => Ok(Expr::Bool(true)),
+        "false" => Ok(Expr::Bool(false)),
+        "number" => Ok(Expr::Int(1)),
+        "missing" => Ok(Expr::Path(PathRoot::Event, Text::from_str(alloc, "none")?)),
+        "range" => quotient(alloc),
+        "context" => Ok(Expr::Path(PathRoot::Context, Text::new(alloc))),
+        _ => Ok(Expr::Path(PathRoot::Params, Text::new(alloc))),
     }
 }
 
-fn guard(alloc: Global, part: Part) -> Result<GuardUse, EvalFault> {
-    match part {
-        Part::In(node) => Ok(GuardUse::In(node)),
-        Part::Params(truth) => Ok(GuardUse::Test {
-            expr: expr(alloc, part)?,
-            params: Value::Bool(truth),
-        }),
-        _ => Ok(GuardUse::Test {
-            expr: expr(alloc, part)?,
-            params: Value::Null,
+fn params(word: &str) -> Value {
+    match word {
+        "params-true" => Value::Bool(true),
+        "params-false" => Value::Bool(false),
+        _ => Value::Null,
+    }
+}
+
+fn node(word: &str) -> Option<u32> {
+    word.strip_prefix("in-")?.parse::<u32>().ok()
+}
+
+fn part(alloc: Global, word: &str) -> Result<GuardUse, EvalFault> {
+    match node(word) {
+        Some(node) => Ok(GuardUse::In(node)),
+        None => Ok(GuardUse::Test {
+            expr: expr(alloc, word)?,
+            params: params(word),
         }),
     }
 }
 
-fn around(alloc: Global, form: Form, parts: &[Part]) -> Result<GuardUse, EvalFault> {
-    let mut guards = Guards::new(alloc);
-    for part in parts {
-        if guards.push(guard(alloc, *part)?).is_err() {
+fn parts(alloc: Global, words: &str) -> Result<Guards, EvalFault> {
+    let mut guards: Guards = Items::new(alloc);
+    for word in words.split(' ') {
+        if !word.is_empty() && guards.push(part(alloc, word)?).is_err() {
             return Err(EvalFault::Memory);
         }
     }
+    Ok(guards)
+}
+
+fn around(alloc: Global, form: &str, guards: Guards) -> Result<GuardUse, EvalFault> {
     match form {
-        Form::And => Ok(GuardUse::And(guards)),
-        Form::Or => Ok(GuardUse::Or(guards)),
-        Form::NotAnd => Ok(GuardUse::Not(Boxed::new(alloc, GuardUse::And(guards))?)),
+        "and" => Ok(GuardUse::And(guards)),
+        "or" => Ok(GuardUse::Or(guards)),
+        _ => Ok(GuardUse::Not(Boxed::new(alloc, GuardUse::And(guards))?)),
     }
 }
 
@@ -92,90 +126,9 @@ fn is_rising(nodes: &[u32]) -> bool
     true
 }
 
-/// The active nodes of the cases.
-const ACTIVE: [u32; 3] = [0, 2, 5];
-
-/// Guards, and what they give where the nodes 0, 2 and 5 are active, the context is true and the
-/// params of the environment are a number.
-const CASES: [(Form, &[Part], Result<bool, EvalFault>); 38] = [
-    (Form::And, &[], Ok(true)),
-    (Form::And, &[Part::True], Ok(true)),
-    (Form::And, &[Part::False], Ok(false)),
-    (Form::And, &[Part::True, Part::True], Ok(true)),
-    (Form::And, &[Part::True, Part::False], Ok(false)),
-    (Form::And, &[Part::False, Part::Missing], Ok(false)),
-    (
-        Form::And,
-        &[Part::Missing, Part::False],
-        Err(EvalFault::Missing),
-    ),
-    (
-        Form::And,
-        &[Part::True, Part::OutOfRange, Part::Missing],
-        Err(EvalFault::Range),
-    ),
-    (Form::And, &[Part::Number], Err(EvalFault::Kind)),
-    (
-        Form::And,
-        &[Part::Number, Part::False],
-        Err(EvalFault::Kind),
-    ),
-    (Form::And, &[Part::False, Part::Number], Ok(false)),
-    (
-        Form::And,
-        &[Part::Missing, Part::Number],
-        Err(EvalFault::Missing),
-    ),
-    (Form::Or, &[], Ok(false)),
-    (Form::Or, &[Part::True], Ok(true)),
-    (Form::Or, &[Part::False], Ok(false)),
-    (Form::Or, &[Part::False, Part::False], Ok(false)),
-    (Form::Or, &[Part::False, Part::True], Ok(true)),
-    (Form::Or, &[Part::True, Part::Missing], Ok(true)),
-    (
-        Form::Or,
-        &[Part::Missing, Part::True],
-        Err(EvalFault::Missing),
-    ),
-    (
-        Form::Or,
-        &[Part::False, Part::OutOfRange, Part::True],
-        Err(EvalFault::Range),
-    ),
-    (Form::Or, &[Part::Number, Part::True], Err(EvalFault::Kind)),
-    (Form::Or, &[Part::True, Part::Number], Ok(true)),
-    (Form::NotAnd, &[], Ok(false)),
-    (Form::NotAnd, &[Part::False], Ok(true)),
-    (Form::NotAnd, &[Part::True, Part::True], Ok(false)),
-    (Form::NotAnd, &[Part::False, Part::Missing], Ok(true)),
-    (Form::NotAnd, &[Part::Missing], Err(EvalFault::Missing)),
-    (Form::NotAnd, &[Part::Number], Err(EvalFault::Kind)),
-    (
-        Form::And,
-        &[Part::In(0), Part::In(2), Part::In(5)],
-        Ok(true),
-    ),
-    (
-        Form::Or,
-        &[Part::In(1), Part::In(3), Part::In(4)],
-        Ok(false),
-    ),
-    (Form::Or, &[Part::In(6), Part::In(4_294_967_295)], Ok(false)),
-    (Form::And, &[Part::In(2), Part::In(1)], Ok(false)),
-    (Form::Or, &[Part::In(1), Part::In(5)], Ok(true)),
-    (Form::And, &[Part::Params(true)], Ok(true)),
-    (Form::And, &[Part::Params(false)], Ok(false)),
-    (
-        Form::And,
-        &[Part::Params(true), Part::Context, Part::Params(true)],
-        Ok(true),
-    ),
-    (Form::Or, &[Part::Params(false), Part::Context], Ok(true)),
-    (Form::NotAnd, &[Part::Context, Part::In(2)], Ok(false)),
-];
-
-#[test]
-fn guards_stop_at_the_first_part_that_decides(rt: HostRuntime) -> Result<(), Fail> {
+fn found(alloc: Global, guard: &GuardUse, active: &[u32]) -> Result<bool, EvalFault>
+    requires { IsStrictlyIncreasing active.now }
+{
     let context = Value::Bool(true);
     let event = Value::Null;
     let params = Value::Int(7);
@@ -185,12 +138,37 @@ fn guards_stop_at_the_first_part_that_decides(rt: HostRuntime) -> Result<(), Fai
         params: &params,
         input: &event,
     };
-    let active = ACTIVE;
-    assert!(rt; is_rising(&active));
-    for (form, parts, wanted) in CASES {
-        let given = around(rt.alloc(), form, parts)?;
-        let found = holds(rt.alloc(), &given, &active, &env);
-        assert_eq!(rt; found, wanted, "{form:?} {parts:?}");
+    holds(alloc, guard, active, &env)
+}
+
+fn given(alloc: Global, text: &str, active: &[u32]) -> Result<bool, EvalFault>
+    requires { IsStrictlyIncreasing active.now }
+{
+    let (form, words) = text.split_once(":").unwrap_or((text, ""));
+    let guard = around(alloc, form, parts(alloc, words)?)?;
+    found(alloc, &guard, active)
+}
+
+fn answer(given: Result<bool, EvalFault>) -> &'static str {
+    match given {
+        Ok(true) => "true",
+        Ok(false) => "false",
+        Err(EvalFault::Missing) => "Missing",
+        Err(EvalFault::Range) => "Range",
+        Err(EvalFault::Kind) => "Kind",
+        Err(_) => "another fault",
     }
-    Ok(())
+}
+
+fn is_given(alloc: Global, text: &str, wanted: &str) -> bool {
+    let active = ACTIVE;
+    is_rising(&active) && answer(given(alloc, text, &active)) == wanted
+}
+
+#[test]
+fn guards_stop_at_the_first_part_that_decides(rt: HostRuntime) {
+    for row in CASES.split('\n') {
+        let (text, wanted) = row.split_once(" => ").unwrap_or((row, ""));
+        assert!(rt; is_given(rt.alloc(), text, wanted), "at {row}");
+    }
 }

@@ -1,166 +1,135 @@
-//! Tables of expressions by their texts: those in no form with their places, and each form.
+//! Expressions as marked lines: those in no form, and each form.
 
-use machine_json::*;
-use ordered_json::OrderedJson;
-use std::alloc::Global;
+use crate::marked::{Reader, expect_answers};
 use std::process::Abort;
 use std::test::Fail;
 
 /// Unknown forms, answered at the object.
-const AT_OBJECT: [(&[u8], usize); 35] = [
-    (b"{\"$no\":1}", 0),
-    (b"{\"$\":1}", 0),
-    (b"{\"$add\":1,\"$sub\":2}", 0),
-    (b"{\"a\":1,\"$lit\":2}", 0),
-    (b"{\"$lit\":1,\"a\":2}", 0),
-    (b"{\"$Add\":[1,2]}", 0),
-    (b"{\"$context \":\"x\"}", 0),
-    (b"{\"$context\":5}", 0),
-    (b"{\"$context\":null}", 0),
-    (b"{\"$event\":[\"a\"]}", 0),
-    (b"{\"$params\":{}}", 0),
-    (b"{\"$input\":true}", 0),
-    (b"{\"$or_else\":[1]}", 0),
-    (b"{\"$or_else\":[1,2,3]}", 0),
-    (b"{\"$or_else\":{}}", 0),
-    (b"{\"$add\":[]}", 0),
-    (b"{\"$add\":[1]}", 0),
-    (b"{\"$add\":[1,2,3]}", 0),
-    (b"{\"$add\":{\"a\":1}}", 0),
-    (b"{\"$add\":\"x\"}", 0),
-    (b"{\"$sub\":1}", 0),
-    (b"{\"$mul\":[1]}", 0),
-    (b"{\"$div\":[1,2,3]}", 0),
-    (b"{\"$rem\":null}", 0),
-    (b"{\"$concat\":[\"a\"]}", 0),
-    (b"{\"$append\":[[]]}", 0),
-    (b"{\"$eq\":[1]}", 0),
-    (b"{\"$lt\":[1]}", 0),
-    (b"{\"$le\":[1,2,3]}", 0),
-    (b"{\"$and\":[true]}", 0),
-    (b"{\"$or\":[true]}", 0),
-    (b"{\"$or\":false}", 0),
-    (b"{\"$if\":[true,1]}", 0),
-    (b"{\"$if\":[true,1,2,3]}", 0),
-    (b"{\"$if\":1}", 0),
-];
+const AT_OBJECT: &str = r#"^{"$no":1}
+^{"$":1}
+^{"$add":1,"$sub":2}
+^{"a":1,"$lit":2}
+^{"$lit":1,"a":2}
+^{"$Add":[1,2]}
+^{"$context ":"x"}
+^{"$context":5}
+^{"$context":null}
+^{"$event":["a"]}
+^{"$params":{}}
+^{"$input":true}
+^{"$or_else":[1]}
+^{"$or_else":[1,2,3]}
+^{"$or_else":{}}
+^{"$add":[]}
+^{"$add":[1]}
+^{"$add":[1,2,3]}
+^{"$add":{"a":1}}
+^{"$add":"x"}
+^{"$sub":1}
+^{"$mul":[1]}
+^{"$div":[1,2,3]}
+^{"$rem":null}
+^{"$concat":["a"]}
+^{"$append":[[]]}
+^{"$eq":[1]}
+^{"$lt":[1]}
+^{"$le":[1,2,3]}
+^{"$and":[true]}
+^{"$or":[true]}
+^{"$or":false}
+^{"$if":[true,1]}
+^{"$if":[true,1,2,3]}
+^{"$if":1}"#;
 
 /// Unknown forms within others, answered at the object: the first of several.
-const AT_INNER_OBJECT: [(&[u8], usize); 16] = [
-    (b"{\"$text\":{\"$no\":1}}", 9),
-    (b"{\"$len\":{\"$no\":1}}", 8),
-    (b"{\"$not\":{\"$no\":1}}", 8),
-    (b"{\"$add\":[{\"$a\":1},{\"$b\":1}]}", 9),
-    (b"{\"$add\":[1,{\"$b\":1}]}", 11),
-    (b"{\"$if\":[1,2,{\"$b\":1}]}", 12),
-    (b"{\"$if\":[1,{\"$b\":1},{\"$c\":1}]}", 10),
-    (b"[1,{\"$no\":1}]", 3),
-    (b"[[{\"$no\":1}],{\"$no\":2}]", 2),
-    (b"{\"a\":{\"$no\":1},\"b\":{\"$no\":2}}", 5),
-    (b"{\"a\":{\"b\":[1,{\"c\":{\"$no\":1}}]}}", 18),
-    (b"{\"$or_else\":[1,{\"x\":{\"$if\":[]}}]}", 20),
-    (b"{\"$no\":{\"$no\":1}}", 0),
-    (b"{\"$add\":[{\"$no\":1}]}", 0),
-    (b"{\"a\":{\"$no\":1},\"$lit\":1}", 0),
-    (b"{\"a\":1,\"b\":{\"$and\":[{\"$x\":1},{\"$y\":1}]}}", 20),
-];
+const AT_INNER_OBJECT: &str = r#"{"$text":^{"$no":1}}
+{"$len":^{"$no":1}}
+{"$not":^{"$no":1}}
+{"$add":[^{"$a":1},{"$b":1}]}
+{"$add":[1,^{"$b":1}]}
+{"$if":[1,2,^{"$b":1}]}
+{"$if":[1,^{"$b":1},{"$c":1}]}
+[1,^{"$no":1}]
+[[^{"$no":1}],{"$no":2}]
+{"a":^{"$no":1},"b":{"$no":2}}
+{"a":{"b":[1,{"c":^{"$no":1}}]}}
+{"$or_else":[1,{"x":^{"$if":[]}}]}
+^{"$no":{"$no":1}}
+^{"$add":[{"$no":1}]}
+^{"a":{"$no":1},"$lit":1}
+{"a":1,"b":{"$and":[^{"$x":1},{"$y":1}]}}"#;
 
 /// Unknown forms, answered at the first key that begins with `$`.
-const AT_OPERATOR: [(&[u8], usize); 8] = [
-    (b"{\"$no\":1}", 1),
-    (b"{\"a\":1,\"$lit\":2}", 7),
-    (b"{\"$lit\":1,\"a\":2}", 1),
-    (b"{\"a\":1,\"b\":2,\"$add\":1,\"$sub\":2}", 13),
-    (b"{\"$add\":[1]}", 1),
-    (b"{\"$not\":{\"$no\":1}}", 9),
-    (b"[1,{\"x\":{\"$if\":1}}]", 9),
-    (b"{\"a\":{\"$x\":1},\"b\":{\"$y\":1}}", 6),
-];
+const AT_OPERATOR: &str = r#"{^"$no":1}
+{"a":1,^"$lit":2}
+{^"$lit":1,"a":2}
+{"a":1,"b":2,^"$add":1,"$sub":2}
+{^"$add":[1]}
+{"$not":{^"$no":1}}
+[1,{"x":{^"$if":1}}]
+{"a":{^"$x":1},"b":{"$y":1}}"#;
 
 /// Each form.
-const TAKEN: [&[u8]; 37] = [
-    b"null",
-    b"true",
-    b"-7",
-    b"\"$context\"",
-    b"\"\"",
-    b"[]",
-    b"{}",
-    b"[[],{}]",
-    b"{\"a\":{\"b\":1}}",
-    b"{\"\":1}",
-    b"{\"a$\":1}",
-    b"{\"$context\":\"\"}",
-    b"{\"$event\":\"a.b\"}",
-    b"{\"$params\":\"x\"}",
-    b"{\"$input\":\"y\"}",
-    b"{\"$or_else\":[1,2]}",
-    b"{\"$add\":[1,2]}",
-    b"{\"$sub\":[1,2]}",
-    b"{\"$mul\":[1,2]}",
-    b"{\"$div\":[1,2]}",
-    b"{\"$rem\":[1,2]}",
-    b"{\"$concat\":[\"a\",\"b\"]}",
-    b"{\"$text\":1}",
-    b"{\"$text\":[1,2]}",
-    b"{\"$append\":[[],1]}",
-    b"{\"$len\":[]}",
-    b"{\"$eq\":[1,1]}",
-    b"{\"$lt\":[1,2]}",
-    b"{\"$le\":[1,2]}",
-    b"{\"$and\":[1,2]}",
-    b"{\"$or\":[1,2]}",
-    b"{\"$not\":[1]}",
-    b"{\"$if\":[1,2,3]}",
-    b"{\"$lit\":{\"$no\":1}}",
-    b"{\"$lit\":{\"$lit\":1,\"a\":2}}",
-    b"{\"$lit\":null}",
-    b"{\"$add\":[{\"$context\":\"n\"},{\"$if\":[true,{\"$len\":\"x\"},0]}]}",
-];
-
-/// JSON of a text that is JSON.
-fn json(alloc: Global, text: &[u8]) -> Result<OrderedJson, Fail> {
-    Ok(ordered_json::read(alloc, text)?)
-}
-
-/// The fault of a text, answered at objects.
-fn refusal(alloc: Global, text: &[u8]) -> Result<Option<MachineFault>, Fail> {
-    Ok(read_expr(alloc, &json(alloc, text)?).err())
-}
-
-/// Each text is refused at its place.
-fn refuses(rt: &impl Abort, alloc: Global, rows: &[(&[u8], usize)]) -> Result<(), Fail> {
-    for (text, place) in rows {
-        assert_eq!(rt; refusal(alloc, text)?, Some(MachineFault::BadKind(*place)));
-    }
-    Ok(())
-}
+const TAKEN: &str = r#"null
+true
+-7
+"$context"
+""
+[]
+{}
+[[],{}]
+{"a":{"b":1}}
+{"":1}
+{"a$":1}
+{"$context":""}
+{"$event":"a.b"}
+{"$params":"x"}
+{"$input":"y"}
+{"$or_else":[1,2]}
+{"$add":[1,2]}
+{"$sub":[1,2]}
+{"$mul":[1,2]}
+{"$div":[1,2]}
+{"$rem":[1,2]}
+{"$concat":["a","b"]}
+{"$text":1}
+{"$text":[1,2]}
+{"$append":[[],1]}
+{"$len":[]}
+{"$eq":[1,1]}
+{"$lt":[1,2]}
+{"$le":[1,2]}
+{"$and":[1,2]}
+{"$or":[1,2]}
+{"$not":[1]}
+{"$if":[1,2,3]}
+{"$lit":{"$no":1}}
+{"$lit":{"$lit":1,"a":2}}
+{"$lit":null}
+{"$add":[{"$context":"n"},{"$if":[true,{"$len":"x"},0]}]}"#;
 
 #[test]
 fn answers_at_the_object(rt: HostRuntime) -> Result<(), Fail> {
-    refuses(&rt, rt.alloc(), AT_OBJECT.as_slice())
+    expect_answers(&rt, rt.alloc(), Reader::Expression, "BadKind", AT_OBJECT)
 }
 
 #[test]
 fn answers_at_the_first_object(rt: HostRuntime) -> Result<(), Fail> {
-    refuses(&rt, rt.alloc(), AT_INNER_OBJECT.as_slice())
+    expect_answers(
+        &rt,
+        rt.alloc(),
+        Reader::Expression,
+        "BadKind",
+        AT_INNER_OBJECT,
+    )
 }
 
 #[test]
 fn answers_at_the_operator(rt: HostRuntime) -> Result<(), Fail> {
-    let alloc = rt.alloc();
-    for (text, place) in AT_OPERATOR {
-        let fault = read_form(alloc, &json(alloc, text)?, FormPlace::AtOperator).err();
-        assert_eq!(rt; fault, Some(FormFault::Unknown(place)));
-    }
-    Ok(())
+    expect_answers(&rt, rt.alloc(), Reader::Form, "Unknown", AT_OPERATOR)
 }
 
 #[test]
 fn takes_each_form(rt: HostRuntime) -> Result<(), Fail> {
-    let alloc = rt.alloc();
-    for text in TAKEN {
-        assert_eq!(rt; refusal(alloc, text)?, None);
-    }
-    Ok(())
+    expect_answers(&rt, rt.alloc(), Reader::Expression, "", TAKEN)
 }

@@ -6,6 +6,8 @@ mod expression_tests;
 #[cfg(test)]
 mod link_fault_tests;
 #[cfg(test)]
+mod marked;
+#[cfg(test)]
 mod reading_tests;
 #[cfg(test)]
 mod refused_tests;

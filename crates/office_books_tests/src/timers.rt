@@ -1,6 +1,6 @@
 //! Each call with ample memory: a body that always gives up would be proved.
 
-ghost use Rattle.std.specs.Prelude.{◌≡◌, ◌<◌, IfOk};
+ghost use Rattle.std.specs.Prelude.{◌≡◌, ◌<◌, [], IfOk};
 ghost use Rattle.std.specs.List.{All};
 ghost use Rattle.office_types.specs.declared.office.Timer.{Timer};
 
@@ -87,62 +87,121 @@ impl Numbered {
         self.timers.take_due(moment);
     }
 
-    /// What is due has these numbers.
-    fn is_due(
-        &self,
-        rt: &impl Abort,
-        alloc: Global,
-        moment: u64,
-        numbers: &[u64],
-    ) -> Result<(), Fail> {
+    /// Whether what is due has these numbers.
+    fn is_due(&self, alloc: Global, moment: u64, numbers: &[u64]) -> Result<bool, AllocError> {
         let due: Due = self.timers.due(alloc, moment)?;
-        assert_eq!(rt; due.len(), numbers.len());
-        for (timer, number) in due.as_slice().iter().zip(numbers) {
-            assert_eq!(rt; timer.order, *number);
+        Ok(have_numbers(due.as_slice(), numbers))
+    }
+
+    /// Whether what is due at each moment has the numbers beside it.
+    fn are_due(&self, alloc: Global, moments: &[(u64, &[u64])]) -> Result<bool, AllocError> {
+        for (moment, numbers) in moments {
+            if !self.is_due(alloc, *moment, numbers)? {
+                return Ok(false);
+            }
         }
-        Ok(())
+        Ok(true)
     }
 }
 
+fn have_numbers(timers: &[Timer], numbers: &[u64]) -> bool {
+    for (timer, number) in timers.iter().zip(numbers) {
+        if timer.order != *number {
+            return false;
+        }
+    }
+    timers.len() == numbers.len()
+}
+
+/// The owner of a timer, when it is due, and its id.
+type Row = (u64, u64, Option<&'static str>);
+
+/// Timers that are scheduled in this order.
+fn scheduled(rt: &impl Abort, alloc: Global, rows: &[Row]) -> Result<Numbered, Fail> {
+    let mut queue = Numbered::new(alloc);
+    for (owner, due, id) in rows {
+        queue.schedule(rt, alloc, *owner, *due, *id)?;
+    }
+    Ok(queue)
+}
+
+const BY_DUE: [Row; 4] = [
+    (7, u64::MAX, None),
+    (7, 5, None),
+    (8, 5, None),
+    (8, 0, None),
+];
+
+const DUE: [(u64, &[u64]); 4] = [
+    (0, &[4]),
+    (4, &[4]),
+    (5, &[4, 2, 3]),
+    (u64::MAX, &[4, 2, 3, 1]),
+];
+
 #[test]
 fn what_is_due_comes_by_due_and_then_by_number(rt: HostRuntime) -> Result<(), Fail> {
-    let mut queue = Numbered::new(rt.alloc());
-    queue.schedule(&rt, rt.alloc(), 7, u64::MAX, None)?;
-    queue.schedule(&rt, rt.alloc(), 7, 5, None)?;
-    queue.schedule(&rt, rt.alloc(), 8, 5, None)?;
-    queue.schedule(&rt, rt.alloc(), 8, 0, None)?;
-    queue.is_due(&rt, rt.alloc(), 0, [4].as_slice())?;
-    queue.is_due(&rt, rt.alloc(), 4, [4].as_slice())?;
-    queue.is_due(&rt, rt.alloc(), 5, [4, 2, 3].as_slice())?;
-    queue.is_due(&rt, rt.alloc(), u64::MAX, [4, 2, 3, 1].as_slice())?;
-    queue.take_due(5);
-    queue.is_due(&rt, rt.alloc(), u64::MAX, [1].as_slice())?;
-    queue.take_due(u64::MAX);
-    queue.is_due(&rt, rt.alloc(), u64::MAX, [].as_slice())
+    let queue = scheduled(&rt, rt.alloc(), &BY_DUE)?;
+    assert!(rt; queue.are_due(rt.alloc(), &DUE)?);
+    Ok(())
 }
+
+/// What is due at each moment once what was due at moment 5 is taken.
+const DUE_LATER: [(u64, &[u64]); 1] = [(u64::MAX, &[1])];
+
+const NEVER_DUE: [(u64, &[u64]); 1] = [(u64::MAX, &[])];
+
+#[test]
+fn what_is_due_is_taken(rt: HostRuntime) -> Result<(), Fail> {
+    let mut queue = scheduled(&rt, rt.alloc(), &BY_DUE)?;
+    queue.take_due(5);
+    assert!(rt; queue.are_due(rt.alloc(), &DUE_LATER)?);
+    queue.take_due(u64::MAX);
+    assert!(rt; queue.are_due(rt.alloc(), &NEVER_DUE)?);
+    Ok(())
+}
+
+const OF_TWO_OWNERS: [Row; 5] = [
+    (7, 9, Some("a")),
+    (8, 9, Some("a")),
+    (7, 9, Some("aa")),
+    (7, 9, None),
+    (7, 9, Some("a")),
+];
 
 #[test]
 fn an_id_is_its_owners(rt: HostRuntime) -> Result<(), Fail> {
-    let mut queue = Numbered::new(rt.alloc());
-    queue.schedule(&rt, rt.alloc(), 7, 9, Some("a"))?;
-    queue.schedule(&rt, rt.alloc(), 8, 9, Some("a"))?;
-    queue.schedule(&rt, rt.alloc(), 7, 9, Some("aa"))?;
-    queue.schedule(&rt, rt.alloc(), 7, 9, None)?;
-    queue.schedule(&rt, rt.alloc(), 7, 9, Some("a"))?;
-    queue.is_due(&rt, rt.alloc(), 9, [2, 3, 4, 5].as_slice())?;
+    let mut queue = scheduled(&rt, rt.alloc(), &OF_TWO_OWNERS)?;
+    assert!(rt; queue.is_due(rt.alloc(), 9, &[2, 3, 4, 5])?);
     queue.cancel(8, "aa");
     queue.cancel(7, "a");
-    queue.is_due(&rt, rt.alloc(), 9, [2, 3, 4].as_slice())?;
+    assert!(rt; queue.is_due(rt.alloc(), 9, &[2, 3, 4])?);
+    Ok(())
+}
+
+#[test]
+fn the_timers_of_an_owner_are_dropped(rt: HostRuntime) -> Result<(), Fail> {
+    let mut queue = scheduled(&rt, rt.alloc(), &OF_TWO_OWNERS)?;
+    queue.cancel(7, "a");
     queue.drop_of(7);
-    queue.is_due(&rt, rt.alloc(), 9, [2].as_slice())
+    assert!(rt; queue.is_due(rt.alloc(), 9, &[2])?);
+    Ok(())
+}
+
+/// Whether one timer is scheduled among none.
+fn is_scheduled(timers: &mut Timers, timer: Timer) -> bool
+    requires { timers.old.timers ≡ [] }
+{
+    let before = timers.len();
+    let scheduled = timers.schedule(timer).is_ok();
+    before == 0 && scheduled && timers.len() == 1
 }
 
 #[test]
 fn room_is_made_before(rt: HostRuntime) -> Result<(), Fail> {
     let mut timers = Timers::new(rt.alloc());
-    assert_eq!(rt; timers.len(), 0);
     timers.reserve(1)?;
-    assert!(rt; timers.schedule(timer(rt.alloc(), 1, 7, 5, None)?).is_ok());
-    assert_eq!(rt; timers.len(), 1);
+    let timer = timer(rt.alloc(), 1, 7, 5, None)?;
+    assert!(rt; is_scheduled(&mut timers, timer));
     Ok(())
 }

@@ -1,9 +1,11 @@
 //! Tables of calls on an office of toggles: each script stands beside the answers that it is to get.
 
 use office_core::{
-    Ask, Claim, Core, FlatMachine, FlatState, FlatTransition, FlatValue, Request, StepRefused, Word,
+    Ask, Claim, Core, FlatMachine, FlatState, FlatTransition, FlatValue, Reply, Request,
+    StepRefused, Word,
 };
 use std::alloc::Global;
+use std::process::Abort;
 use std::test::Fail;
 use xs_data::{Items, Text};
 
@@ -16,30 +18,55 @@ enum Line<'a> {
     Value(u64),
 }
 
-fn toggle_state(alloc: Global, key: &str, target: u32) -> Result<FlatState, Fail> {
+fn flip_to(alloc: Global, target: u32) -> Result<Items<FlatTransition>, Fail> {
     let mut transitions = Items::new(alloc);
+    let descriptor = Text::from_str(alloc, "FLIP")?;
     let flip = FlatTransition {
-        descriptor: Text::from_str(alloc, "FLIP")?,
+        descriptor,
         state: target,
     };
     transitions.push(flip).ok().ok_or("memory")?;
-    Ok(FlatState {
-        key: Text::from_str(alloc, key)?,
-        transitions,
-    })
+    Ok(transitions)
 }
 
-fn toggle(alloc: Global) -> Result<FlatMachine, Fail> {
+fn toggle_state(alloc: Global, key: &str, target: u32) -> Result<FlatState, Fail> {
+    let key = Text::from_str(alloc, key)?;
+    let transitions = flip_to(alloc, target)?;
+    Ok(FlatState { key, transitions })
+}
+
+fn toggle_states(alloc: Global) -> Result<Items<FlatState>, Fail> {
     let mut states = Items::new(alloc);
     let off = toggle_state(alloc, "off", 1)?;
     states.push(off).ok().ok_or("memory")?;
     let on = toggle_state(alloc, "on", 0)?;
     states.push(on).ok().ok_or("memory")?;
+    Ok(states)
+}
+
+fn toggle(alloc: Global) -> Result<FlatMachine, Fail> {
+    let states = toggle_states(alloc)?;
     Ok(FlatMachine {
         id: Text::from_str(alloc, "toggle")?,
         initial: 0,
         states,
     })
+}
+
+// An office of one machine, the toggle.
+fn office_of_toggles(alloc: Global) -> Result<Core, Fail> {
+    let mut machines = Items::new(alloc);
+    let machine = toggle(alloc)?;
+    machines.push(machine).ok().ok_or("memory")?;
+    Ok(Core::new(alloc, machines))
+}
+
+fn word_of(reply: &Reply) -> &'static str {
+    match reply.word {
+        Word::Actor => "actor",
+        Word::Letter => "letter",
+        Word::Machine => "machine",
+    }
 }
 
 fn decided(alloc: Global, core: &mut Core, ask: Ask) -> Result<String, Fail> {
@@ -50,11 +77,7 @@ fn decided(alloc: Global, core: &mut Core, ask: Ask) -> Result<String, Fail> {
     };
     let plan = core.decide(&request)?;
     let reply = core.carry_out(plan);
-    let word = match reply.word {
-        Word::Actor => "actor",
-        Word::Letter => "letter",
-        Word::Machine => "machine",
-    };
+    let word = word_of(&reply);
     Ok(format!(in alloc; "{} {} {}", reply.status, word, reply.value)?)
 }
 
@@ -68,43 +91,40 @@ fn stepped(alloc: Global, core: &mut Core, claim: Claim) -> Result<String, Fail>
     Ok(format!(in alloc; "step {} {} {}", claim.actor, reply.status, reply.value)?)
 }
 
+// What `value` prints of an actor.
+fn value_text(alloc: Global, core: &Core, actor: u64) -> Result<String, Fail> {
+    let text = match core.value(actor) {
+        FlatValue::Never => "never",
+        FlatValue::Waiting => "waiting",
+        FlatValue::Key(key) => str::from_utf8(key).ok().ok_or("no text")?,
+    };
+    Ok(String::from_str(alloc, text)?)
+}
+
+fn started(alloc: Global, core: &mut Core, machine: &str) -> Result<String, Fail> {
+    let machine = Text::from_str(alloc, machine)?;
+    decided(alloc, core, Ask::Start { machine })
+}
+
+fn sent(alloc: Global, core: &mut Core, actor: u64, event: &str) -> Result<String, Fail> {
+    let event = Text::from_str(alloc, event)?;
+    decided(alloc, core, Ask::Send { actor, event })
+}
+
+fn turned(alloc: Global, core: &mut Core) -> Result<String, Fail> {
+    match core.first_ready() {
+        Some(claim) => stepped(alloc, core, claim),
+        None => Ok(String::from_str(alloc, "idle")?),
+    }
+}
+
 fn answer(alloc: Global, core: &mut Core, line: &Line) -> Result<String, Fail> {
-    match line {
-        Line::Start(machine) => {
-            let machine = Text::from_str(alloc, machine)?;
-            decided(alloc, core, Ask::Start { machine })
-        }
-        Line::Send(actor, event) => {
-            let event = Text::from_str(alloc, event)?;
-            decided(
-                alloc,
-                core,
-                Ask::Send {
-                    actor: *actor,
-                    event,
-                },
-            )
-        }
-        Line::Turn => match core.first_ready() {
-            Some(claim) => stepped(alloc, core, claim),
-            None => Ok(String::from_str(alloc, "idle")?),
-        },
-        Line::Step(actor, letter) => stepped(
-            alloc,
-            core,
-            Claim {
-                actor: *actor,
-                letter: *letter,
-            },
-        ),
-        Line::Value(actor) => Ok(match core.value(*actor) {
-            FlatValue::Never => String::from_str(alloc, "never")?,
-            FlatValue::Waiting => String::from_str(alloc, "waiting")?,
-            FlatValue::Key(key) => String::from_str(
-                alloc,
-                str::from_utf8(key).ok().ok_or("no text")?,
-            )?,
-        }),
+    match *line {
+        Line::Start(machine) => started(alloc, core, machine),
+        Line::Send(actor, event) => sent(alloc, core, actor, event),
+        Line::Turn => turned(alloc, core),
+        Line::Step(actor, letter) => stepped(alloc, core, Claim { actor, letter }),
+        Line::Value(actor) => value_text(alloc, core, actor),
     }
 }
 
@@ -154,17 +174,27 @@ const TWO_TOGGLES: [(Line, &str); 15] = [
     (Line::Value(1), "on"),
 ];
 
-#[test]
-fn toggles_answer_as_the_tables_say(rt: HostRuntime) -> Result<(), Fail> {
-    for script in [&ONE_TOGGLE[..], &NOTHING_THERE[..], &TWO_TOGGLES[..]] {
-        let mut machines = Items::new(rt.alloc());
-        let machine = toggle(rt.alloc())?;
-        machines.push(machine).ok().ok_or("memory")?;
-        let mut core = Core::new(rt.alloc(), machines);
-        for (place, (line, want)) in script.iter().enumerate() {
-            let got = answer(rt.alloc(), &mut core, line)?;
-            assert_eq!(rt; got.as_str(), *want, "at line {place}");
-        }
+// An office of toggles answers each line as the script says.
+fn follow(rt: &impl Abort, alloc: Global, script: &[(Line, &str)]) -> Result<(), Fail> {
+    let mut core = office_of_toggles(alloc)?;
+    for (place, (line, want)) in script.iter().enumerate() {
+        let got = answer(alloc, &mut core, line)?;
+        assert!(rt; got.as_str() == *want, "at line {place}");
     }
     Ok(())
+}
+
+#[test]
+fn one_toggle_flips(rt: HostRuntime) -> Result<(), Fail> {
+    follow(&rt, rt.alloc(), &ONE_TOGGLE)
+}
+
+#[test]
+fn nothing_is_there(rt: HostRuntime) -> Result<(), Fail> {
+    follow(&rt, rt.alloc(), &NOTHING_THERE)
+}
+
+#[test]
+fn two_toggles_answer_out_of_turn(rt: HostRuntime) -> Result<(), Fail> {
+    follow(&rt, rt.alloc(), &TWO_TOGGLES)
 }

@@ -1,6 +1,7 @@
 //! Lines that are those of requests, and lines that aren't.
 use office_core::*;
 use std::alloc::{AllocError, Global};
+use std::process::Abort;
 use std::test::Fail;
 
 const REFUSED: &str = "the line is no request";
@@ -27,106 +28,160 @@ fn shown(alloc: Global, line: &[u8]) -> Result<String, AllocError> {
     }
 }
 
+fn is_shown(alloc: Global, line: &[u8], want: &str) -> Result<bool, AllocError> {
+    Ok(shown(alloc, line)?.as_str() == want)
+}
+
+// Each line of the rows is refused.
+fn expect_refused(rt: &impl Abort, alloc: Global, rows: &str) -> Result<(), Fail> {
+    for line in rows.lines() {
+        assert!(rt; is_shown(alloc, line.as_bytes(), REFUSED)?, "at {line}");
+    }
+    Ok(())
+}
+
+// Lines, each with the request that it is.
+const REQUESTS: &str = "\
+ann 1 start toggle - null=>ann 1 start toggle
+ann 2 start - - null=>ann 2 start -
+ann 2 start schr\u{e4}nk - null=>ann 2 start schr\u{e4}nk
+turn 3 send 5 {\"type\":\"FLIP\"}=>turn 3 send 5 FLIP
+b-2- 7 send 0  \t{ \"type\" : \"X\" } \r=>b-2- 7 send 0 X
+a 1 send 1 {\"type\":\"\"}=>a 1 send 1\x20
+a 1 send 1 {\"type\":\"a b\"}=>a 1 send 1 a b
+a 1 send 1 {\"type\":\"xstate\"}=>a 1 send 1 xstate
+a 18446744073709551615 send 18446744073709551615 {\"type\":\"X\"}=>a 18446744073709551615 send 18446744073709551615 X";
+
+// Too few parts, and too many.
+const PARTS: &str = "\
+\x20
+ann
+ann 1
+ann 1\x20
+ann 1 start
+ann 1 start toggle
+ann 1 start toggle -
+ann 1 start toggle - null null";
+
+// Other blanks than one space between two parts.
+const BLANKS: &str = "\
+\x20ann 1 start toggle - null
+ann  1 start toggle - null
+ann 1  start toggle - null
+ann 1 start  toggle - null
+ann 1 start toggle  - null
+ann 1 start toggle -  null
+ann 1 start toggle - null\x20
+ann\t1 start toggle - null
+ann 1\tstart toggle - null
+ann 1 start\ttoggle - null";
+
+// A byte 0.
+const ZEROS: &str = "\
+ann 1 start toggle - null\0
+ann\0 1 start toggle - null
+ann 1 start tog\0gle - null";
+
+// Callers.
+const CALLERS: &str = "\
+Ann 1 start toggle - null
+1ann 1 start toggle - null
+-ann 1 start toggle - null
+an_n 1 start toggle - null
+aNn 1 start toggle - null";
+
+// Numbers.
+const NUMBERS: &str = "\
+ann 0 start toggle - null
+ann 01 start toggle - null
+ann +1 start toggle - null
+ann -1 start toggle - null
+ann 1x start toggle - null
+ann 18446744073709551616 start toggle - null
+ann 1 send 01 {\"type\":\"X\"}
+ann 1 send +1 {\"type\":\"X\"}
+ann 1 send 18446744073709551616 {\"type\":\"X\"}";
+
+// Words and their parts.
+const WORDS: &str = "\
+ann 1 stop toggle - null
+ann 1 starts toggle - null
+ann 1 start toggle desk null
+ann 1 start toggle - nul
+ann 1 start toggle - {}";
+
+// Events.
+const EVENTS: &str = "\
+ann 1 send 1\x20
+ann 1 send 1 {}
+ann 1 send 1 \"X\"
+ann 1 send 1 [\"type\",\"X\"]
+ann 1 send 1 {\"type\":1}
+ann 1 send 1 {\"Type\":\"X\"}
+ann 1 send 1 {\"type\":\"X\",\"to\":\"Y\"}
+ann 1 send 1 {\"type\":\"X\",\"type\":\"X\"}
+ann 1 send 1 {\"type\":\"X\"} {\"type\":\"X\"}
+ann 1 send 1 {\"type\":\"X\"}x
+ann 1 send 1 {\"type\":\"xstate.\"}
+ann 1 send 1 {\"type\":\"xstate.x\"}";
+
+// Lines that no row of a text can hold: the empty one, ends of lines, and bytes that are no UTF-8.
+const ODD: [&[u8]; 5] = [
+    b"",
+    b"ann 1 start toggle - null\r",
+    b"ann 1 start toggle - null\n",
+    b"ann 1 start tog\xffgle - null",
+    b"ann 1 send 1 {\"type\":\"\xff\"}",
+];
+
 #[test]
 fn reads_requests(rt: HostRuntime) -> Result<(), Fail> {
-    let rows = [
-        ("ann 1 start toggle - null", "ann 1 start toggle"),
-        ("ann 2 start - - null", "ann 2 start -"),
-        (
-            "ann 2 start schr\u{e4}nk - null",
-            "ann 2 start schr\u{e4}nk",
-        ),
-        ("turn 3 send 5 {\"type\":\"FLIP\"}", "turn 3 send 5 FLIP"),
-        (
-            "b-2- 7 send 0  \t{ \"type\" : \"X\" } \r",
-            "b-2- 7 send 0 X",
-        ),
-        ("a 1 send 1 {\"type\":\"\"}", "a 1 send 1 "),
-        ("a 1 send 1 {\"type\":\"a b\"}", "a 1 send 1 a b"),
-        ("a 1 send 1 {\"type\":\"xstate\"}", "a 1 send 1 xstate"),
-        (
-            "a 18446744073709551615 send 18446744073709551615 {\"type\":\"X\"}",
-            "a 18446744073709551615 send 18446744073709551615 X",
-        ),
-    ];
-    for (line, want) in rows {
-        let found = shown(rt.alloc(), line.as_bytes())?;
-        assert_eq!(rt; found.as_str(), want);
+    for row in REQUESTS.lines() {
+        let (line, want) = row.split_once("=>").ok_or("no row")?;
+        assert!(rt; is_shown(rt.alloc(), line.as_bytes(), want)?, "at {line}");
     }
     Ok(())
 }
 
 #[test]
-fn refuses_other_lines(rt: HostRuntime) -> Result<(), Fail> {
-    let rows = [
-        // Too few parts, and too many.
-        b"".as_slice(),
-        b" ".as_slice(),
-        b"ann".as_slice(),
-        b"ann 1".as_slice(),
-        b"ann 1 ".as_slice(),
-        b"ann 1 start".as_slice(),
-        b"ann 1 start toggle".as_slice(),
-        b"ann 1 start toggle -".as_slice(),
-        b"ann 1 start toggle - null null".as_slice(),
-        // Other blanks than one space between two parts.
-        b" ann 1 start toggle - null".as_slice(),
-        b"ann  1 start toggle - null".as_slice(),
-        b"ann 1  start toggle - null".as_slice(),
-        b"ann 1 start  toggle - null".as_slice(),
-        b"ann 1 start toggle  - null".as_slice(),
-        b"ann 1 start toggle -  null".as_slice(),
-        b"ann 1 start toggle - null ".as_slice(),
-        b"ann 1 start toggle - null\r".as_slice(),
-        b"ann\t1 start toggle - null".as_slice(),
-        b"ann 1\tstart toggle - null".as_slice(),
-        b"ann 1 start\ttoggle - null".as_slice(),
-        b"ann 1 start toggle - null\n".as_slice(),
-        // A byte 0, and bytes that are no UTF-8.
-        b"ann 1 start toggle - null\0".as_slice(),
-        b"ann\0 1 start toggle - null".as_slice(),
-        b"ann 1 start tog\0gle - null".as_slice(),
-        b"ann 1 start tog\xffgle - null".as_slice(),
-        b"ann 1 send 1 {\"type\":\"\xff\"}".as_slice(),
-        // Callers.
-        b"Ann 1 start toggle - null".as_slice(),
-        b"1ann 1 start toggle - null".as_slice(),
-        b"-ann 1 start toggle - null".as_slice(),
-        b"an_n 1 start toggle - null".as_slice(),
-        b"aNn 1 start toggle - null".as_slice(),
-        // Numbers.
-        b"ann 0 start toggle - null".as_slice(),
-        b"ann 01 start toggle - null".as_slice(),
-        b"ann +1 start toggle - null".as_slice(),
-        b"ann -1 start toggle - null".as_slice(),
-        b"ann 1x start toggle - null".as_slice(),
-        b"ann 18446744073709551616 start toggle - null".as_slice(),
-        b"ann 1 send 01 {\"type\":\"X\"}".as_slice(),
-        b"ann 1 send +1 {\"type\":\"X\"}".as_slice(),
-        b"ann 1 send 18446744073709551616 {\"type\":\"X\"}".as_slice(),
-        // Words and their parts.
-        b"ann 1 stop toggle - null".as_slice(),
-        b"ann 1 starts toggle - null".as_slice(),
-        b"ann 1 start toggle desk null".as_slice(),
-        b"ann 1 start toggle - nul".as_slice(),
-        b"ann 1 start toggle - {}".as_slice(),
-        // Events.
-        b"ann 1 send 1 ".as_slice(),
-        b"ann 1 send 1 {}".as_slice(),
-        b"ann 1 send 1 \"X\"".as_slice(),
-        b"ann 1 send 1 [\"type\",\"X\"]".as_slice(),
-        b"ann 1 send 1 {\"type\":1}".as_slice(),
-        b"ann 1 send 1 {\"Type\":\"X\"}".as_slice(),
-        b"ann 1 send 1 {\"type\":\"X\",\"to\":\"Y\"}".as_slice(),
-        b"ann 1 send 1 {\"type\":\"X\",\"type\":\"X\"}".as_slice(),
-        b"ann 1 send 1 {\"type\":\"X\"} {\"type\":\"X\"}".as_slice(),
-        b"ann 1 send 1 {\"type\":\"X\"}x".as_slice(),
-        b"ann 1 send 1 {\"type\":\"xstate.\"}".as_slice(),
-        b"ann 1 send 1 {\"type\":\"xstate.x\"}".as_slice(),
-    ];
-    for line in rows {
-        let found = shown(rt.alloc(), line)?;
-        assert_eq!(rt; found.as_str(), REFUSED, "at {line:?}");
+fn refuses_too_few_parts_and_too_many(rt: HostRuntime) -> Result<(), Fail> {
+    expect_refused(&rt, rt.alloc(), PARTS)
+}
+
+#[test]
+fn refuses_other_blanks(rt: HostRuntime) -> Result<(), Fail> {
+    expect_refused(&rt, rt.alloc(), BLANKS)
+}
+
+#[test]
+fn refuses_a_byte_0(rt: HostRuntime) -> Result<(), Fail> {
+    expect_refused(&rt, rt.alloc(), ZEROS)
+}
+
+#[test]
+fn refuses_other_callers(rt: HostRuntime) -> Result<(), Fail> {
+    expect_refused(&rt, rt.alloc(), CALLERS)
+}
+
+#[test]
+fn refuses_other_numbers(rt: HostRuntime) -> Result<(), Fail> {
+    expect_refused(&rt, rt.alloc(), NUMBERS)
+}
+
+#[test]
+fn refuses_other_words(rt: HostRuntime) -> Result<(), Fail> {
+    expect_refused(&rt, rt.alloc(), WORDS)
+}
+
+#[test]
+fn refuses_other_events(rt: HostRuntime) -> Result<(), Fail> {
+    expect_refused(&rt, rt.alloc(), EVENTS)
+}
+
+#[test]
+fn refuses_odd_lines(rt: HostRuntime) -> Result<(), Fail> {
+    for line in ODD.iter() {
+        assert!(rt; is_shown(rt.alloc(), line, REFUSED)?, "at {line:?}");
     }
     Ok(())
 }
@@ -148,41 +203,43 @@ fn padded(
     Ok(line)
 }
 
+// Whether the line with the byte so many times is a request, and the one with it once more isn't.
+fn is_most(
+    alloc: Global,
+    front: &[u8],
+    byte: u8,
+    most: usize,
+    back: &[u8],
+) -> Result<bool, AllocError> {
+    let line = padded(alloc, front, byte, most, back)?;
+    let longer = padded(alloc, front, byte, most.saturating_add(1), back)?;
+    let is_taken = !is_shown(alloc, line.as_slice(), REFUSED)?;
+    Ok(is_taken && is_shown(alloc, longer.as_slice(), REFUSED)?)
+}
+
 #[test]
-fn keeps_the_limits(rt: HostRuntime) -> Result<(), Fail> {
-    // What stands before and after the repeated byte, and how often that may stand at most.
-    let rows = [
-        // A caller of 64 bytes.
-        (
-            b"a".as_slice(),
-            b'b',
-            63,
-            b" 1 start toggle - null".as_slice(),
-        ),
-        // A name of 256 bytes.
-        (b"ann 1 start ".as_slice(), b'm', 256, b" - null".as_slice()),
-        // A compact text of 4,096 bytes: `{"type":"`, the type and `"}`.
-        (
-            b"ann 1 send 1 {\"type\":\"".as_slice(),
-            b'T',
-            4085,
-            b"\"}".as_slice(),
-        ),
-        // A line of 65,536 bytes.
-        (
-            b"ann 1 send 1 {\"type\":\"X\"}".as_slice(),
-            b' ',
-            65_511,
-            b"".as_slice(),
-        ),
-    ];
-    for (front, byte, most, back) in rows {
-        let line = padded(rt.alloc(), front, byte, most, back)?;
-        let found = shown(rt.alloc(), line.as_slice())?;
-        assert_ne!(rt; found.as_str(), REFUSED, "at {front:?}");
-        let line = padded(rt.alloc(), front, byte, most + 1, back)?;
-        let found = shown(rt.alloc(), line.as_slice())?;
-        assert_eq!(rt; found.as_str(), REFUSED, "at {front:?}");
-    }
+fn callers_have_64_bytes_at_most(rt: HostRuntime) -> Result<(), Fail> {
+    assert!(rt; is_most(rt.alloc(), b"a", b'b', 63, b" 1 start toggle - null")?);
+    Ok(())
+}
+
+#[test]
+fn names_have_256_bytes_at_most(rt: HostRuntime) -> Result<(), Fail> {
+    assert!(rt; is_most(rt.alloc(), b"ann 1 start ", b'm', 256, b" - null")?);
+    Ok(())
+}
+
+// A compact text of 4,096 bytes: `{"type":"`, the type and `"}`.
+#[test]
+fn events_have_4096_bytes_at_most(rt: HostRuntime) -> Result<(), Fail> {
+    let front = b"ann 1 send 1 {\"type\":\"";
+    assert!(rt; is_most(rt.alloc(), front, b'T', 4085, b"\"}")?);
+    Ok(())
+}
+
+#[test]
+fn lines_have_65536_bytes_at_most(rt: HostRuntime) -> Result<(), Fail> {
+    let front = b"ann 1 send 1 {\"type\":\"X\"}";
+    assert!(rt; is_most(rt.alloc(), front, b' ', 65_511, b"")?);
     Ok(())
 }

@@ -1,211 +1,192 @@
 //! Lines, entries and values, against the grammar's own examples.
 
 use office_types::*;
-use std::alloc::{AllocError, Global};
-use std::test::Fail;
+use std::alloc::Global;
 
 mod copies;
+mod limits;
 mod state_values;
 
-const REFUSED: &[u8] = b"the line is no request";
+// Lines that are canonical already. One calls a machine `-`, and one has an event of a reserved type.
+const CANONICAL: &str = "\
+ann 1 start toggle - null
+turn 3 send 5 {\"type\":\"FLIP\"}
+a 1 reject 18446744073709551615 [1,-2,true]
+a 1 at 9007199254740991
+a 18446744073709551615 at 0
+ann 2 start - desk {\"x\":[]}
+ann 2 send 1 {\"type\":\"xstate.x\"}";
 
-// The canonical line of a line, or why the line is refused.
-fn shown(alloc: Global, line: &[u8]) -> Result<Bytes, AllocError> {
-    match read_request(alloc, line) {
-        Ok(request) => write_request(alloc, &request),
-        Err(fault) => Ok(Bytes::from_vec(format!(in alloc; "{fault}")?.into_bytes())),
+// Lines, and how they are written: white space round the JSON and members out of order; escapes, and
+// a zero with a sign.
+const SPELLED_OTHERWISE: &str = "\
+b-2- 7 send 0  \t{ \"type\" : \"X\" , \"a\" : 1 } \r => b-2- 7 send 0 {\"a\":1,\"type\":\"X\"}
+a 1 resolve 2 {\"b\":\"\\u0041\\/\\n\",\"a\":-0} => a 1 resolve 2 {\"a\":0,\"b\":\"A/\\n\"}";
+
+// Too few parts, none of them too, too many, and other blanks than one space.
+const PARTED_OTHERWISE: &str = "\
+ann 1 start toggle
+
+ann 1 start toggle - null null
+ ann 1 start toggle - null
+ann  1 start toggle - null
+ann 1 start toggle  - null
+ann 1 at 5\x20
+ann 1 at 5\r";
+
+// Callers, numbers and moments that are none.
+const NUMBERED_OTHERWISE: &str = "\
+Ann 1 at 5
+1ann 1 at 5
+ann 0 at 5
+ann 01 at 5
+ann +1 at 5
+ann 18446744073709551616 at 5
+ann 1 at 05
+ann 1 at 9007199254740992
+ann 1 send 01 {\"type\":\"X\"}";
+
+// Words and names, JSON, and events that are none.
+const NAMED_OTHERWISE: &str = "\
+ann 1 stop toggle - null
+ann 1 start tog\0gle - null
+ann 1 start  - null
+ann 1 resolve 2\x20
+ann 1 resolve 2 {\"a\":1,\"a\":1}
+ann 1 resolve 2 1.5
+ann 1 resolve 2 9223372036854775808
+ann 1 resolve 2 \"\\ud800\"
+ann 1 send 1 \"X\"
+ann 1 send 1 {\"type\":1}
+ann 1 send 1 {\"Type\":\"X\"}";
+
+// Payloads of entries.
+const ENTRIES: &str = "\
+R ann 1 start toggle - null
+R a 1 send 1 {\"a\":1,\"type\":\"X\"}
+S 18446744073709551615";
+
+// No canonical line, another letter, a number with a leading zero, none, and no letter.
+const OTHER_PAYLOADS: &str = "\
+R a 1 send 1 {\"type\":\"X\",\"a\":1}
+R a 1 send 1 {\"type\": \"X\"}
+R  a 1 at 5
+r a 1 at 5
+S 01
+S\x20
+";
+
+fn is_line_of(alloc: Global, request: &Request, wanted: &str) -> bool {
+    match write_request(alloc, request) {
+        Ok(line) => line.as_slice() == wanted.as_bytes(),
+        Err(_) => false,
+    }
+}
+
+fn is_written_as(alloc: Global, line: &str, wanted: &str) -> bool {
+    let found = read_request(alloc, line.as_bytes());
+    match &found {
+        Ok(request) => is_line_of(alloc, request, wanted),
+        Err(_) => false,
+    }
+}
+
+fn is_refused(alloc: Global, line: &[u8]) -> bool {
+    let found = read_request(alloc, line);
+    match &found {
+        Ok(_) => false,
+        Err(fault) => *fault == LineFault::NotALine,
+    }
+}
+
+fn is_printed_as(alloc: Global, fault: LineFault, wanted: &str) -> bool {
+    match format!(in alloc; "{fault}") {
+        Ok(text) => text.as_str() == wanted,
+        Err(_) => false,
+    }
+}
+
+fn is_payload_of(alloc: Global, entry: &Entry, wanted: &str) -> bool {
+    match write_entry(alloc, entry) {
+        Ok(payload) => payload.as_slice() == wanted.as_bytes(),
+        Err(_) => false,
+    }
+}
+
+fn is_kept(alloc: Global, payload: &str) -> bool {
+    let found = read_entry(alloc, payload.as_bytes());
+    match &found {
+        Ok(entry) => is_payload_of(alloc, entry, payload),
+        Err(_) => false,
+    }
+}
+
+fn is_entry(alloc: Global, payload: &str) -> bool {
+    read_entry(alloc, payload.as_bytes()).is_ok()
+}
+
+#[test]
+fn keeps_canonical_lines(rt: HostRuntime) {
+    for line in CANONICAL.split('\n') {
+        assert!(rt; is_written_as(rt.alloc(), line, line), "at {line}");
     }
 }
 
 #[test]
-fn reads_requests_and_writes_canonical_lines(rt: HostRuntime) -> Result<(), Fail> {
-    let rows = [
-        // A line that is canonical already.
-        (
-            b"ann 1 start toggle - null".as_slice(),
-            b"ann 1 start toggle - null".as_slice(),
-        ),
-        (
-            b"turn 3 send 5 {\"type\":\"FLIP\"}".as_slice(),
-            b"turn 3 send 5 {\"type\":\"FLIP\"}".as_slice(),
-        ),
-        (
-            b"a 1 reject 18446744073709551615 [1,-2,true]".as_slice(),
-            b"a 1 reject 18446744073709551615 [1,-2,true]".as_slice(),
-        ),
-        (
-            b"a 1 at 9007199254740991".as_slice(),
-            b"a 1 at 9007199254740991".as_slice(),
-        ),
-        (
-            b"a 18446744073709551615 at 0".as_slice(),
-            b"a 18446744073709551615 at 0".as_slice(),
-        ),
-        // White space round the JSON, and members out of order.
-        (
-            b"b-2- 7 send 0  \t{ \"type\" : \"X\" , \"a\" : 1 } \r".as_slice(),
-            b"b-2- 7 send 0 {\"a\":1,\"type\":\"X\"}".as_slice(),
-        ),
-        // Escapes, and a zero with a sign.
-        (
-            b"a 1 resolve 2 {\"b\":\"\\u0041\\/\\n\",\"a\":-0}".as_slice(),
-            b"a 1 resolve 2 {\"a\":0,\"b\":\"A/\\n\"}".as_slice(),
-        ),
-        // A system name, a machine that is called `-`, and a reserved type.
-        (
-            b"ann 2 start - desk {\"x\":[]}".as_slice(),
-            b"ann 2 start - desk {\"x\":[]}".as_slice(),
-        ),
-        (
-            b"ann 2 send 1 {\"type\":\"xstate.x\"}".as_slice(),
-            b"ann 2 send 1 {\"type\":\"xstate.x\"}".as_slice(),
-        ),
-    ];
-    for (line, want) in rows {
-        let found = shown(rt.alloc(), line)?;
-        assert_eq!(rt; found.as_slice(), want, "at {line:?}");
+fn writes_canonical_lines(rt: HostRuntime) {
+    for row in SPELLED_OTHERWISE.split('\n') {
+        let (line, wanted) = row.split_once(" => ").unwrap_or((row, ""));
+        assert!(rt; is_written_as(rt.alloc(), line, wanted), "at {row}");
     }
-    Ok(())
 }
 
 #[test]
-fn refuses_other_lines(rt: HostRuntime) -> Result<(), Fail> {
-    let rows = [
-        // Too few parts, too many, and other blanks than one space.
-        b"".as_slice(),
-        b"ann 1 start toggle".as_slice(),
-        b"ann 1 start toggle - null null".as_slice(),
-        b" ann 1 start toggle - null".as_slice(),
-        b"ann  1 start toggle - null".as_slice(),
-        b"ann 1 start toggle  - null".as_slice(),
-        b"ann 1 at 5 ".as_slice(),
-        b"ann 1 at 5\r".as_slice(),
-        // Callers, numbers and moments.
-        b"Ann 1 at 5".as_slice(),
-        b"1ann 1 at 5".as_slice(),
-        b"ann 0 at 5".as_slice(),
-        b"ann 01 at 5".as_slice(),
-        b"ann +1 at 5".as_slice(),
-        b"ann 18446744073709551616 at 5".as_slice(),
-        b"ann 1 at 05".as_slice(),
-        b"ann 1 at 9007199254740992".as_slice(),
-        b"ann 1 send 01 {\"type\":\"X\"}".as_slice(),
-        // Words and names.
-        b"ann 1 stop toggle - null".as_slice(),
-        b"ann 1 start tog\0gle - null".as_slice(),
-        b"ann 1 start tog\xffgle - null".as_slice(),
-        b"ann 1 start  - null".as_slice(),
-        // JSON.
-        b"ann 1 resolve 2 ".as_slice(),
-        b"ann 1 resolve 2 {\"a\":1,\"a\":1}".as_slice(),
-        b"ann 1 resolve 2 1.5".as_slice(),
-        b"ann 1 resolve 2 9223372036854775808".as_slice(),
-        b"ann 1 resolve 2 \"\\ud800\"".as_slice(),
-        b"ann 1 resolve 2 \"\xff\"".as_slice(),
-        // Events.
-        b"ann 1 send 1 \"X\"".as_slice(),
-        b"ann 1 send 1 {\"type\":1}".as_slice(),
-        b"ann 1 send 1 {\"Type\":\"X\"}".as_slice(),
-    ];
-    for line in rows {
-        let found = shown(rt.alloc(), line)?;
-        assert_eq!(rt; found.as_slice(), REFUSED, "at {line:?}");
+fn refuses_lines_of_other_parts(rt: HostRuntime) {
+    for line in PARTED_OTHERWISE.split('\n') {
+        assert!(rt; is_refused(rt.alloc(), line.as_bytes()), "at {line}");
     }
-    Ok(())
-}
-
-// Some bytes, `count` times another one, and some more.
-fn padded(
-    alloc: Global,
-    front: &[u8],
-    byte: u8,
-    count: usize,
-    back: &[u8],
-) -> Result<Vec<u8>, AllocError> {
-    let mut line = Vec::new(alloc);
-    line.extend_from_slice(front)?;
-    for _ in 0..count {
-        line.push(byte)?;
-    }
-    line.extend_from_slice(back)?;
-    Ok(line)
 }
 
 #[test]
-fn keeps_the_limits(rt: HostRuntime) -> Result<(), Fail> {
-    // What stands before and after the repeated byte, and how often that may stand at most.
-    let rows = [
-        // A caller of 64 bytes, and names of 256.
-        (b"a".as_slice(), b'b', 63, b" 1 at 5".as_slice()),
-        (b"a 1 start ".as_slice(), b'm', 256, b" - null".as_slice()),
-        (b"a 1 start m ".as_slice(), b's', 256, b" null".as_slice()),
-        // A compact text of 4,096 bytes: the text and its quotes.
-        (
-            b"a 1 resolve 2 \"".as_slice(),
-            b'T',
-            4_094,
-            b"\"".as_slice(),
-        ),
-        // A line of 65,536 bytes.
-        (
-            b"a 1 resolve 2 null".as_slice(),
-            b' ',
-            65_518,
-            b"".as_slice(),
-        ),
-    ];
-    for (front, byte, most, back) in rows {
-        let line = padded(rt.alloc(), front, byte, most, back)?;
-        assert!(rt;
-            read_request(rt.alloc(), line.as_slice()).is_ok(),
-            "at {front:?}"
-        );
-        let line = padded(rt.alloc(), front, byte, most + 1, back)?;
-        assert!(rt;
-            read_request(rt.alloc(), line.as_slice()).is_err(),
-            "at {front:?}"
-        );
+fn refuses_lines_of_other_numbers(rt: HostRuntime) {
+    for line in NUMBERED_OTHERWISE.split('\n') {
+        assert!(rt; is_refused(rt.alloc(), line.as_bytes()), "at {line}");
     }
-    Ok(())
 }
 
 #[test]
-fn nests_values_32_deep(rt: HostRuntime) -> Result<(), Fail> {
-    for (depth, good) in [(32, true), (33, false)] {
-        let mut line = padded(rt.alloc(), b"a 1 resolve 2 ", b'[', depth, b"")?;
-        for _ in 0..depth {
-            line.push(b']')?;
-        }
-        let found = read_request(rt.alloc(), line.as_slice());
-        assert_eq!(rt; found.is_ok(), good, "at {depth}");
+fn refuses_lines_of_other_names(rt: HostRuntime) {
+    for line in NAMED_OTHERWISE.split('\n') {
+        assert!(rt; is_refused(rt.alloc(), line.as_bytes()), "at {line}");
     }
-    Ok(())
 }
 
 #[test]
-fn reads_entries_and_writes_them(rt: HostRuntime) -> Result<(), Fail> {
-    let rows = [
-        (b"R ann 1 start toggle - null".as_slice(), true),
-        (b"R a 1 send 1 {\"a\":1,\"type\":\"X\"}".as_slice(), true),
-        (b"S 18446744073709551615".as_slice(), true),
-        // No canonical line, another letter, and a number with a leading zero.
-        (b"R a 1 send 1 {\"type\":\"X\",\"a\":1}".as_slice(), false),
-        (b"R a 1 send 1 {\"type\": \"X\"}".as_slice(), false),
-        (b"R  a 1 at 5".as_slice(), false),
-        (b"r a 1 at 5".as_slice(), false),
-        (b"S 01".as_slice(), false),
-        (b"S ".as_slice(), false),
-        (b"".as_slice(), false),
-    ];
-    for (payload, good) in rows {
-        match read_entry(rt.alloc(), payload) {
-            Ok(entry) => {
-                let written = write_entry(rt.alloc(), &entry)?;
-                assert!(rt; good, "at {payload:?}");
-                assert_eq!(rt; written.as_slice(), payload);
-            }
-            Err(_) => assert!(rt; !good, "at {payload:?}"),
-        }
+fn refuses_a_name_that_is_no_text(rt: HostRuntime) {
+    assert!(rt; is_refused(rt.alloc(), b"ann 1 start tog\xffgle - null"));
+}
+
+#[test]
+fn refuses_a_value_that_is_no_text(rt: HostRuntime) {
+    assert!(rt; is_refused(rt.alloc(), b"ann 1 resolve 2 \"\xff\""));
+}
+
+#[test]
+fn says_why_it_refuses_a_line(rt: HostRuntime) {
+    let wanted = "the line is no request";
+    assert!(rt; is_printed_as(rt.alloc(), LineFault::NotALine, wanted));
+}
+
+#[test]
+fn reads_entries_and_writes_them(rt: HostRuntime) {
+    for payload in ENTRIES.split('\n') {
+        assert!(rt; is_kept(rt.alloc(), payload), "at {payload}");
     }
-    Ok(())
+}
+
+#[test]
+fn refuses_other_payloads(rt: HostRuntime) {
+    for payload in OTHER_PAYLOADS.split('\n') {
+        assert!(rt; !is_entry(rt.alloc(), payload), "at {payload}");
+    }
 }

@@ -1,5 +1,6 @@
 //! Tables of cases for each form, each limit and each list of pairs.
 
+mod applied;
 mod choices;
 mod given;
 mod holders;

@@ -4,7 +4,6 @@ use super::kit::open_on;
 use super::script::{Plain, Step, Stop, run, script};
 use gate_journal::{Held, Journal, JournalRefused};
 use std::alloc::{AllocError, Global};
-use std::process::Abort;
 use std::test::Fail;
 use xs_outside::{Image, MemoryDisk, MemoryStation};
 
@@ -21,11 +20,14 @@ fn empty_station(alloc: Global, fails: Vec<u64>) -> Result<MemoryStation, AllocE
     MemoryStation::new(Vec::new(alloc), Vec::new(alloc), Vec::new(alloc), fails)
 }
 
-/// What an image holds.
-fn held_on(alloc: Global, image: &Image) -> Result<Option<Held>, Fail> {
+fn disk_of(alloc: Global, image: &Image) -> Result<MemoryDisk, AllocError> {
     let a = image.a.as_slice().to_vec(alloc)?;
     let b = image.b.as_slice().to_vec(alloc)?;
-    let disk = MemoryDisk::new(a, b, Vec::new(alloc))?;
+    MemoryDisk::new(a, b, Vec::new(alloc))
+}
+
+/// What a disk holds.
+fn held_on(alloc: Global, disk: MemoryDisk) -> Result<Option<Held>, Fail> {
     match Journal::open(alloc, disk) {
         Ok((_, held)) => Ok(held),
         Err(_) => Err("an image is bad")?,
@@ -33,121 +35,115 @@ fn held_on(alloc: Global, image: &Image) -> Result<Option<Held>, Fail> {
 }
 
 /// Each crash now leaves what was held before the call that failed, or what is held after it.
-fn leaves_either(
-    rt: &impl Abort,
-    alloc: Global,
-    station: &MemoryStation,
-    stop: &Stop,
-) -> Result<(), Fail> {
+fn leaves_either(alloc: Global, station: &MemoryStation, stop: &Stop) -> Result<(), Fail> {
     let images = station.images()?;
     for image in images.as_slice() {
-        let held = held_on(alloc, image)?;
-        let either = stop.before.is_held(&held)? || stop.after.is_held(&held)?;
-        assert!(rt; either, "after {} calls", stop.done);
+        let held = held_on(alloc, disk_of(alloc, image)?)?;
+        if !stop.is_either(&held)? {
+            return Err("a crash leaves what neither was held nor is next")?;
+        }
     }
     Ok(())
 }
 
 /// Makes a script on a station, from opening it on, until a call fails.
 fn begin(
-    rt: &impl Abort,
     alloc: Global,
     station: MemoryStation,
     steps: &[Step],
 ) -> Result<(MemoryStation, Stop), Fail> {
-    let held = Plain::new(alloc);
     match open_on(alloc, station) {
         Ok((mut journal, _)) => {
-            let stop = run(alloc, &mut journal, steps, held)?;
-            assert_eq!(rt; journal.is_shut(), stop.done < steps.len());
+            let stop = run(alloc, &mut journal, steps, Plain::new(alloc))?;
+            if journal.is_shut() != (stop.done < steps.len()) {
+                return Err("a journal is shut after a failed call, and only then")?;
+            }
             Ok((journal.disk(), stop))
         }
-        Err(JournalRefused::Fault(station)) => {
-            let stop = Stop {
-                before: held.copy()?,
-                after: held,
-                done: 0,
-            };
-            Ok((station, stop))
-        }
+        Err(JournalRefused::Fault(station)) => Ok((station, Stop::new(alloc))),
         Err(_) => Err("not opened")?,
     }
 }
 
-/// Makes a script on a station that makes so many calls of its disk, and tells whether it was done.
-fn stopped_after(rt: &impl Abort, alloc: Global, steps: &[Step], calls: u64) -> Result<bool, Fail> {
-    let mut station = empty_station(alloc, Vec::new(alloc))?;
-    station.stop_after(calls);
-    let (station, stop) = begin(rt, alloc, station, steps)?;
-    leaves_either(rt, alloc, &station, &stop)?;
+/// Makes a script on a station, and tells whether it was done.
+fn is_done(alloc: Global, station: MemoryStation, steps: &[Step]) -> Result<bool, Fail> {
+    let (station, stop) = begin(alloc, station, steps)?;
+    leaves_either(alloc, &station, &stop)?;
     Ok(stop.done == steps.len())
+}
+
+/// Stops a script after each number of calls of the disk, and tells whether it was done in the end.
+fn is_done_in_the_end(alloc: Global, steps: &[Step]) -> Result<bool, Fail> {
+    for calls in 0..=MOST_CALLS {
+        let mut station = empty_station(alloc, Vec::new(alloc))?;
+        station.stop_after(calls);
+        if is_done(alloc, station, steps)? {
+            return Ok(true);
+        }
+    }
+    Ok(false)
 }
 
 #[test]
 fn a_stop_after_any_call_leaves_what_was_held_or_what_is_next(rt: HostRuntime) -> Result<(), Fail> {
-    let alloc = rt.alloc();
     for seed in 1..=SCRIPTS {
-        let steps = script(alloc, seed, STEPS)?;
-        let mut whole = false;
-        for calls in 0..=MOST_CALLS {
-            whole = whole || stopped_after(&rt, alloc, &steps, calls)?;
-        }
-        assert!(rt; whole);
+        let steps = script(rt.alloc(), seed, STEPS)?;
+        assert!(rt; is_done_in_the_end(rt.alloc(), &steps)?);
     }
     Ok(())
+}
+
+/// Makes each front part of a script, and tells whether all were done.
+fn is_each_done(alloc: Global, steps: &[Step]) -> Result<bool, Fail> {
+    for count in 0..=steps.len() {
+        let station = empty_station(alloc, Vec::new(alloc))?;
+        if !is_done(alloc, station, &steps[..count])? {
+            return Ok(false);
+        }
+    }
+    Ok(true)
 }
 
 #[test]
 fn a_crash_after_an_answer_leaves_what_it_says(rt: HostRuntime) -> Result<(), Fail> {
-    let alloc = rt.alloc();
     for seed in 1..=SCRIPTS {
-        let steps = script(alloc, seed, STEPS)?;
-        for count in 0..=steps.len() {
-            let station = empty_station(alloc, Vec::new(alloc))?;
-            let (station, stop) = begin(&rt, alloc, station, &steps[..count])?;
-            assert_eq!(rt; stop.done, count);
-            leaves_either(&rt, alloc, &station, &stop)?;
-        }
+        let steps = script(rt.alloc(), seed, STEPS)?;
+        assert!(rt; is_each_done(rt.alloc(), &steps)?);
     }
     Ok(())
 }
 
-/// Makes a script on a station whose call with this number fails, opens its disk again, and makes
-/// the rest.
-fn failing_once(rt: &impl Abort, alloc: Global, steps: &[Step], call: u64) -> Result<(), Fail> {
-    let station = empty_station(alloc, [call].to_vec(alloc)?)?;
-    let (station, stop) = begin(rt, alloc, station, steps)?;
-    if stop.done == steps.len() {
-        return leaves_either(rt, alloc, &station, &stop);
-    }
+/// Opens the disk of a station once more after a failed call, and makes the rest of a script.
+fn go_on(alloc: Global, station: MemoryStation, steps: &[Step], stop: Stop) -> Result<(), Fail> {
     let Ok((mut journal, held)) = open_on(alloc, station) else {
         return Err("not opened again")?;
     };
-    let Stop {
-        before,
-        after,
-        done,
-    } = stop;
-    let was_done = !before.is_held(&held)?;
-    assert!(rt; !was_done || after.is_held(&held)?);
-    let (held, done) = if was_done {
-        (after, done.saturating_add(1))
-    } else {
-        (before, done)
-    };
+    let (held, done) = stop.held_now(&held)?;
     let rest = steps.get(done..).unwrap_or(&[]);
     let end = run(alloc, &mut journal, rest, held)?;
-    assert_eq!(rt; end.done, rest.len());
-    leaves_either(rt, alloc, &journal.disk(), &end)
+    if end.done != rest.len() {
+        return Err("the rest isn't done")?;
+    }
+    leaves_either(alloc, &journal.disk(), &end)
+}
+
+/// Makes a script on a station whose call with this number fails, opens its disk again, and makes
+/// the rest.
+fn fail_once(alloc: Global, steps: &[Step], call: u64) -> Result<(), Fail> {
+    let station = empty_station(alloc, [call].to_vec(alloc)?)?;
+    let (station, stop) = begin(alloc, station, steps)?;
+    if stop.done == steps.len() {
+        return leaves_either(alloc, &station, &stop);
+    }
+    go_on(alloc, station, steps, stop)
 }
 
 #[test]
 fn after_one_failed_call_the_disk_is_opened_again_and_used(rt: HostRuntime) -> Result<(), Fail> {
-    let alloc = rt.alloc();
     for seed in 1..=SCRIPTS {
-        let steps = script(alloc, seed, STEPS)?;
+        let steps = script(rt.alloc(), seed, STEPS)?;
         for call in 1..=MOST_CALLS {
-            failing_once(&rt, alloc, &steps, call)?;
+            fail_once(rt.alloc(), &steps, call)?;
         }
     }
     Ok(())

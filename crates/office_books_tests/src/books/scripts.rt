@@ -5,7 +5,9 @@ ghost use Rattle.std.specs.List.{All};
 ghost use Rattle.office_types.specs.declared.office.Item.{Item};
 
 use super::item;
+use crate::numbers::Numbers;
 use office_books::{Items, Registry};
+use office_types::Item;
 use std::alloc::Global;
 use std::process::Abort;
 use std::test::Fail;
@@ -14,23 +16,6 @@ use xs_data::Text;
 const NAMES: [&str; 6] = ["", "a", "aa", "ab", "b", "\u{e9}"];
 
 const STEPS: u64 = 400;
-
-/// Numbers that are the same in each run.
-#[derive(Drop)]
-struct Numbers(u64);
-
-impl Numbers {
-    fn below(&mut self, end: u64) -> u64
-        requires { 0 < end }
-        ensures { result < end }
-    {
-        self.0 = self
-            .0
-            .wrapping_mul(6_364_136_223_846_793_005)
-            .wrapping_add(1_442_695_040_888_963_407);
-        (self.0 >> 33) % end
-    }
-}
 
 /// A registry, and its names by their places in `NAMES`.
 #[derive(Drop)]
@@ -64,13 +49,36 @@ impl Names {
         self.plain.retain(|held| held.1 != actor);
     }
 
-    fn agree(&self, rt: &impl Abort) {
+    /// Makes a random call.
+    fn step(&mut self, rt: &impl Abort, alloc: Global, numbers: &mut Numbers) -> Result<(), Fail> {
+        let recent = self.next.saturating_sub(numbers.below(6));
+        match numbers.below(3) {
+            0 => self.free(numbers.below(STEPS)),
+            1 => self.free(recent),
+            _ => self.hold(rt, alloc, numbers.below(6) as usize)?,
+        }
+        Ok(())
+    }
+
+    /// Whether each name is held as the plain list says.
+    fn agrees(&self) -> bool {
         for (place, name) in NAMES.iter().enumerate() {
-            let plain = self.plain.iter().find(|held| held.0 == place);
-            let actor = plain.map(|held| held.1);
-            assert_eq!(rt; self.registry.held(name.as_bytes()), actor);
+            if self.registry.held(name.as_bytes()) != holder_in(&self.plain, place) {
+                return false;
+            }
+        }
+        true
+    }
+}
+
+/// The actor that holds the name at a place of `NAMES`.
+fn holder_in(plain: &[(usize, u64)], place: usize) -> Option<u64> {
+    for held in plain {
+        if held.0 == place {
+            return Some(held.1);
         }
     }
+    None
 }
 
 #[test]
@@ -82,13 +90,8 @@ fn names_are_those_of_the_plain_list(rt: HostRuntime) -> Result<(), Fail> {
         next: 0,
     };
     for _ in 0..STEPS {
-        let recent = names.next.saturating_sub(numbers.below(6));
-        match numbers.below(3) {
-            0 => names.free(numbers.below(STEPS)),
-            1 => names.free(recent),
-            _ => names.hold(&rt, rt.alloc(), numbers.below(6) as usize)?,
-        }
-        names.agree(&rt);
+        names.step(&rt, rt.alloc(), &mut numbers)?;
+        assert!(rt; names.agrees());
     }
     Ok(())
 }
@@ -119,12 +122,30 @@ impl Open {
         self.plain.retain(|open| *open != actor);
     }
 
-    fn agree(&self, rt: &impl Abort) {
-        assert_eq!(rt; self.items.list().len(), self.plain.len());
-        for (item, actor) in self.items.list().iter().zip(&self.plain) {
-            assert_eq!(rt; item.actor, *actor);
+    /// Makes a random call.
+    fn step(&mut self, rt: &impl Abort, alloc: Global, numbers: &mut Numbers) -> Result<(), Fail> {
+        let recent = self.next.saturating_sub(numbers.below(6));
+        match numbers.below(3) {
+            0 => self.close(rt, numbers.below(STEPS)),
+            1 => self.close(rt, recent),
+            _ => self.open(rt, alloc)?,
+        }
+        Ok(())
+    }
+
+    /// Whether the items that the plain list names are open.
+    fn agrees(&self) -> bool {
+        have_numbers(self.items.list(), &self.plain)
+    }
+}
+
+fn have_numbers(items: &[Item], numbers: &[u64]) -> bool {
+    for (item, number) in items.iter().zip(numbers) {
+        if item.actor != *number {
+            return false;
         }
     }
+    items.len() == numbers.len()
 }
 
 #[test]
@@ -136,13 +157,8 @@ fn items_are_those_of_the_plain_list(rt: HostRuntime) -> Result<(), Fail> {
         next: 0,
     };
     for _ in 0..STEPS {
-        let recent = open.next.saturating_sub(numbers.below(6));
-        match numbers.below(3) {
-            0 => open.close(&rt, numbers.below(STEPS)),
-            1 => open.close(&rt, recent),
-            _ => open.open(&rt, rt.alloc())?,
-        }
-        open.agree(&rt);
+        open.step(&rt, rt.alloc(), &mut numbers)?;
+        assert!(rt; open.agrees());
     }
     Ok(())
 }

@@ -1,9 +1,9 @@
 //! Random scripts, beside a plain list of what they leave.
 
-ghost use Rattle.std.specs.Prelude.{◌<◌};
-
 use super::Numbered;
-use std::alloc::Global;
+use crate::numbers::Numbers;
+use office_types::Timer;
+use std::alloc::{AllocError, Global};
 use std::process::Abort;
 use std::test::Fail;
 
@@ -11,35 +11,19 @@ const IDS: [&str; 4] = ["", "a", "aa", "ab"];
 
 const STEPS: u64 = 600;
 
-/// Numbers that are the same in each run.
-#[derive(Drop)]
-struct Numbers(u64);
-
-impl Numbers {
-    fn below(&mut self, end: u64) -> u64
-        requires { 0 < end }
-    {
-        self.0 = self
-            .0
-            .wrapping_mul(6_364_136_223_846_793_005)
-            .wrapping_add(1_442_695_040_888_963_407);
-        (self.0 >> 33) % end
+/// A moment, now and then the last one.
+fn moment(numbers: &mut Numbers) -> u64 {
+    match numbers.below(8) {
+        0 => u64::MAX,
+        _ => numbers.below(12),
     }
+}
 
-    /// A moment, now and then the last one.
-    fn moment(&mut self) -> u64 {
-        match self.below(8) {
-            0 => u64::MAX,
-            _ => self.below(12),
-        }
-    }
-
-    /// An id by its place in `IDS`, or none.
-    fn id(&mut self) -> Option<usize> {
-        match self.below(3) {
-            0 => None,
-            _ => Some(self.below(4) as usize),
-        }
+/// An id by its place in `IDS`, or none.
+fn id(numbers: &mut Numbers) -> Option<usize> {
+    match numbers.below(3) {
+        0 => None,
+        _ => Some(numbers.below(4) as usize),
     }
 }
 
@@ -108,35 +92,47 @@ impl Beside {
         self.plain.retain(|timer| timer.due > moment);
     }
 
-    fn agree(&self, rt: &impl Abort, alloc: Global, moment: u64) -> Result<(), Fail> {
-        let mut plain: Vec<(u64, u64)> = Vec::new(alloc);
-        for timer in &self.plain {
-            if timer.due <= moment {
-                plain.push((timer.due, timer.order))?;
-            }
-        }
-        plain.sort()?;
-        let due = self.queue.timers.due(alloc, moment)?;
-        assert_eq!(rt; self.queue.timers.len(), self.plain.len() as u64);
-        assert_eq!(rt; due.len(), plain.len());
-        for (timer, place) in due.as_slice().iter().zip(&plain) {
-            assert_eq!(rt; timer.due, place.0);
-            assert_eq!(rt; timer.order, place.1);
-        }
-        Ok(())
-    }
-
+    /// Makes a random call.
     fn step(&mut self, rt: &impl Abort, alloc: Global, numbers: &mut Numbers) -> Result<(), Fail> {
         let owner = numbers.below(4);
-        let moment = numbers.moment();
-        match (numbers.below(60), numbers.id()) {
+        let moment = moment(numbers);
+        match (numbers.below(60), id(numbers)) {
             (0, _) => self.drop_of(owner),
             (1..6, _) => self.take_due(moment),
             (6..20, Some(id)) => self.cancel(owner, id),
             (_, id) => self.schedule(rt, alloc, owner, moment, id)?,
         }
-        self.agree(rt, alloc, numbers.moment())
+        Ok(())
     }
+
+    /// Whether what is due at a moment is what the plain list says, and there are as many timers.
+    fn agrees(&self, alloc: Global, moment: u64) -> Result<bool, AllocError> {
+        let due = self.queue.timers.due(alloc, moment)?;
+        let plain = due_in(alloc, &self.plain, moment)?;
+        Ok(are_timers(due.as_slice(), &plain) && self.queue.timers.len() == self.plain.len() as u64)
+    }
+}
+
+/// What is due, by the moment and the number.
+fn due_in(alloc: Global, timers: &[Plain], moment: u64) -> Result<Vec<(u64, u64)>, AllocError> {
+    let mut due = Vec::new(alloc);
+    for timer in timers {
+        if timer.due <= moment {
+            due.push((timer.due, timer.order))?;
+        }
+    }
+    due.sort()?;
+    Ok(due)
+}
+
+/// Whether timers are due at these moments and have these numbers.
+fn are_timers(timers: &[Timer], plain: &[(u64, u64)]) -> bool {
+    for (timer, place) in timers.iter().zip(plain) {
+        if timer.due != place.0 || timer.order != place.1 {
+            return false;
+        }
+    }
+    timers.len() == plain.len()
 }
 
 #[test]
@@ -148,6 +144,7 @@ fn timers_are_those_of_the_plain_list(rt: HostRuntime) -> Result<(), Fail> {
     };
     for _ in 0..STEPS {
         beside.step(&rt, rt.alloc(), &mut numbers)?;
+        assert!(rt; beside.agrees(rt.alloc(), moment(&mut numbers))?);
     }
     Ok(())
 }

@@ -5,7 +5,6 @@ use office_types::{
     copy_timer,
 };
 use std::alloc::{AllocError, Global};
-use std::test::Fail;
 use xs_data::{Items, Text};
 use xs_model::Value;
 
@@ -65,29 +64,84 @@ fn effect(alloc: Global) -> Result<Effect, AllocError> {
     })
 }
 
-#[test]
-fn copies_succeed_with_ample_memory(rt: HostRuntime) -> Result<(), Fail> {
-    let alloc = rt.alloc();
-    let record = record(alloc)?;
-    let other = copy_record(alloc, &record)?;
-    assert_eq!(rt;
-        format!(in alloc; "{other:?}")?,
-        format!(in alloc; "{record:?}")?
-    );
-    let effect = effect(alloc)?;
-    let other = copy_effect(alloc, &effect)?;
-    assert_eq!(rt;
-        format!(in alloc; "{other:?}")?,
-        format!(in alloc; "{effect:?}")?
-    );
-    let timer = Timer {
+fn timer(alloc: Global) -> Result<Timer, AllocError> {
+    Ok(Timer {
         order: 1,
         owner: 2,
         target: 3,
         due: 4,
         id: Some(text(alloc, "t")?),
         event: Value::Null,
-    };
-    let _ = copy_timer(alloc, &timer)?;
-    Ok(())
+    })
+}
+
+fn record_text(alloc: Global, record: &ActorRecord) -> Option<String> {
+    format!(in alloc; "{record:?}").ok()
+}
+
+fn effect_text(alloc: Global, effect: &Effect) -> Option<String> {
+    format!(in alloc; "{effect:?}").ok()
+}
+
+// Whether both texts are there, and are the same.
+fn are_same(text: Option<String>, other: Option<String>) -> bool {
+    match (text, other) {
+        (Some(text), Some(other)) => text.as_str() == other.as_str(),
+        _ => false,
+    }
+}
+
+fn is_record_copied(alloc: Global, record: &ActorRecord) -> bool {
+    let copy = copy_record(alloc, record);
+    match &copy {
+        Ok(other) => are_same(record_text(alloc, other), record_text(alloc, record)),
+        Err(_) => false,
+    }
+}
+
+fn is_effect_copied(alloc: Global, effect: &Effect) -> bool {
+    let copy = copy_effect(alloc, effect);
+    match &copy {
+        Ok(other) => are_same(effect_text(alloc, other), effect_text(alloc, effect)),
+        Err(_) => false,
+    }
+}
+
+fn a_record_is_copied(alloc: Global) -> bool {
+    let record = record(alloc);
+    match &record {
+        Ok(record) => is_record_copied(alloc, record),
+        Err(_) => false,
+    }
+}
+
+fn an_effect_is_copied(alloc: Global) -> bool {
+    let effect = effect(alloc);
+    match &effect {
+        Ok(effect) => is_effect_copied(alloc, effect),
+        Err(_) => false,
+    }
+}
+
+fn a_timer_is_copied(alloc: Global) -> bool {
+    let timer = timer(alloc);
+    match &timer {
+        Ok(timer) => copy_timer(alloc, timer).is_ok(),
+        Err(_) => false,
+    }
+}
+
+#[test]
+fn records_are_copied_with_ample_memory(rt: HostRuntime) {
+    assert!(rt; a_record_is_copied(rt.alloc()));
+}
+
+#[test]
+fn effects_are_copied_with_ample_memory(rt: HostRuntime) {
+    assert!(rt; an_effect_is_copied(rt.alloc()));
+}
+
+#[test]
+fn timers_are_copied_with_ample_memory(rt: HostRuntime) {
+    assert!(rt; a_timer_is_copied(rt.alloc()));
 }

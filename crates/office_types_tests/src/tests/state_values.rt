@@ -5,10 +5,9 @@ ghost use Rattle.std.specs.List.Sorted.{IsStrictlyIncreasing};
 
 use node_tree::{Kind, Node, NodeRows, Tree};
 use office_types::{state_value, write_value};
-use std::alloc::Global;
-use std::process::Abort;
-use std::test::Fail;
+use std::alloc::{AllocError, Global};
 use xs_data::{Items, Text};
+use xs_model::Value;
 
 type Row<'a> = (Option<u32>, Kind, &'a str);
 
@@ -26,19 +25,42 @@ const JOB: [Row; 11] = [
     (Some(9), Kind::Atomic, "low"),
 ];
 
-fn job(rt: &impl Abort, alloc: Global) -> Result<Tree, Fail> {
-    let mut rows: NodeRows = Items::new(alloc);
+// Active nodes, and the value that they give.
+const VALUES: [(&[u32], &str); 5] = [
+    (&[], "null"),
+    // The value that a machine has which is a leaf.
+    (&[1], "{}"),
+    (&[0, 1], "\"idle\""),
+    (&[0, 9, 10], "{\"stopped\":\"low\"}"),
+    (
+        &[0, 2, 3, 5, 6, 7, 8],
+        "{\"work\":{\"door\":{},\"fan\":\"slow\",\"light\":\"green\"}}",
+    ),
+];
+
+fn node(alloc: Global, parent: Option<u32>, kind: Kind, key: &str) -> Result<Node, AllocError> {
+    Ok(Node {
+        parent,
+        kind,
+        key: Text::from_str(alloc, key)?,
+        id: Text::from_str(alloc, key)?,
+    })
+}
+
+fn rows(alloc: Global) -> Result<Vec<Node>, AllocError> {
+    let mut rows = Vec::new(alloc);
     for (parent, kind, key) in JOB.iter() {
-        let node = Node {
-            parent: *parent,
-            kind: *kind,
-            key: Text::from_str(alloc, key)?,
-            id: Text::from_str(alloc, key)?,
-        };
-        rows.push(node).map_err(|_| "out of memory")?;
+        rows.push(node(alloc, *parent, *kind, key)?)?;
     }
-    assert!(rt; rows.len() > 0 && rows.len() < 4_294_967_296);
-    Ok(Tree::build(alloc, rows).map_err(|_| "no tree")?)
+    Ok(rows)
+}
+
+fn job(alloc: Global) -> Option<Tree> {
+    let rows: NodeRows = Items::from_vec(rows(alloc).ok()?);
+    if rows.is_empty() || rows.len() > JOB.len() {
+        return None;
+    }
+    Tree::build(alloc, rows).ok()
 }
 
 fn is_rising(nodes: &[u32]) -> bool
@@ -52,25 +74,34 @@ fn is_rising(nodes: &[u32]) -> bool
     true
 }
 
-#[test]
-fn state_values_by_the_kinds_of_nodes(rt: HostRuntime) -> Result<(), Fail> {
-    let alloc = rt.alloc();
-    let tree = job(&rt, alloc)?;
-    let cases: [(&[u32], &[u8]); 5] = [
-        (&[], b"null"),
-        // The value that a machine has which is a leaf.
-        (&[1], b"{}"),
-        (&[0, 1], b"\"idle\""),
-        (&[0, 9, 10], b"{\"stopped\":\"low\"}"),
-        (
-            &[0, 2, 3, 5, 6, 7, 8],
-            b"{\"work\":{\"door\":{},\"fan\":\"slow\",\"light\":\"green\"}}",
-        ),
-    ];
-    for (active, text) in cases {
-        assert!(rt; is_rising(active));
-        let value = state_value(alloc, &tree, active)?;
-        assert_eq!(rt; write_value(alloc, &value)?.as_slice(), text);
+fn is_text_of(alloc: Global, value: &Value, text: &str) -> bool {
+    match write_value(alloc, value) {
+        Ok(found) => found.as_slice() == text.as_bytes(),
+        Err(_) => false,
     }
-    Ok(())
+}
+
+fn is_value(alloc: Global, tree: &Tree, active: &[u32], text: &str) -> bool {
+    if !is_rising(active) {
+        return false;
+    }
+    let found = state_value(alloc, tree, active);
+    match &found {
+        Ok(value) => is_text_of(alloc, value, text),
+        Err(_) => false,
+    }
+}
+
+fn is_value_of_job(alloc: Global, active: &[u32], text: &str) -> bool {
+    match job(alloc) {
+        Some(tree) => is_value(alloc, &tree, active, text),
+        None => false,
+    }
+}
+
+#[test]
+fn state_values_by_the_kinds_of_nodes(rt: HostRuntime) {
+    for (active, text) in VALUES.iter() {
+        assert!(rt; is_value_of_job(rt.alloc(), active, text), "at {text}");
+    }
 }

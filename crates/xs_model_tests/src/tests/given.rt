@@ -6,7 +6,7 @@ use xs_data::Items;
 use xs_model::*;
 
 /// An operand: a value whose lists and maps hold numbers, or an expression that has one fault.
-#[derive(Clone, Copy, Debug)]
+#[derive(Clone, Copy)]
 pub(crate) enum Given {
     Null,
     Bool(bool),
@@ -99,13 +99,15 @@ pub(crate) fn expr(alloc: Global, given: Given) -> Result<Expr, EvalFault> {
         Given::List(numbers) => list_expr(alloc, numbers),
         Given::Map(pairs) => map_expr(alloc, pairs),
         Given::Missing => Ok(Expr::Path(PathRoot::Context, Text::from_str(alloc, "none")?)),
-        Given::OutOfRange => {
-            let one = Boxed::new(alloc, Expr::Int(1))?;
-            let zero = Boxed::new(alloc, Expr::Int(0))?;
-            Ok(Expr::Binary(Binary::Division(Division::Div), one, zero))
-        }
+        Given::OutOfRange => divided_by_zero(alloc),
         Given::WrongKind => Ok(Expr::Unary(Unary::Not, Boxed::new(alloc, Expr::Int(1))?)),
     }
+}
+
+fn divided_by_zero(alloc: Global) -> Result<Expr, EvalFault> {
+    let one = Boxed::new(alloc, Expr::Int(1))?;
+    let zero = Boxed::new(alloc, Expr::Int(0))?;
+    Ok(Expr::Binary(Binary::Division(Division::Div), one, zero))
 }
 
 fn list_expr(alloc: Global, numbers: &[i64]) -> Result<Expr, EvalFault> {

@@ -25,8 +25,8 @@ const QUOTED: [(&[u8], u64); 12] = [
 
 #[test]
 fn quoted_texts_have_the_shortest_escapes(rt: HostRuntime) {
-    for (text, len) in QUOTED {
-        assert_eq!(rt; quoted_len(text), len, "{text:?}");
+    for (text, len) in QUOTED.iter() {
+        assert!(rt; quoted_len(text) == *len, "{text:?}");
     }
 }
 
@@ -53,11 +53,14 @@ const TEXTS: [(Given, &str); 16] = [
     (Given::Map(&[("b", 1), ("a", 22)]), "{\"a\":22,\"b\":1}"),
 ];
 
+fn has_length_of(alloc: Global, given: Given, text: &str) -> Result<bool, EvalFault> {
+    Ok(text_len(&value(alloc, given)?) == text.len() as u64)
+}
+
 #[test]
 fn values_are_as_long_as_their_texts(rt: HostRuntime) -> Result<(), Fail> {
-    for (given, text) in TEXTS {
-        let found = text_len(&value(rt.alloc(), given)?);
-        assert_eq!(rt; found, text.len() as u64, "{text}");
+    for (given, text) in TEXTS.iter() {
+        assert!(rt; has_length_of(rt.alloc(), *given, text)?, "{text}");
     }
     Ok(())
 }
@@ -72,7 +75,7 @@ fn letters(alloc: Global, count: usize) -> Result<Text, EvalFault> {
 }
 
 /// A form around a text of letters, and how many bytes of compact text it has besides the letters.
-#[derive(Clone, Copy, Debug)]
+#[derive(Clone, Copy)]
 enum Form {
     Concat,
     List,
@@ -81,33 +84,43 @@ enum Form {
     OrElse,
 }
 
+/// A list of one part.
+fn list_around(alloc: Global, part: Expr) -> Result<Expr, EvalFault> {
+    let mut parts = Vec::new(alloc);
+    parts.push(part)?;
+    Ok(Expr::List(Items::from_vec(parts)))
+}
+
+/// A map of one part, under the empty key.
+fn map_around(alloc: Global, part: Expr) -> Result<Expr, EvalFault> {
+    let mut parts = Vec::new(alloc);
+    parts.push((Text::new(alloc), part))?;
+    Ok(Expr::Map(Items::from_vec(parts)))
+}
+
+fn concat_with_nothing(alloc: Global, text: Text) -> Result<Expr, EvalFault> {
+    let first = Boxed::new(alloc, Expr::Text(text))?;
+    let second = Boxed::new(alloc, Expr::Text(Text::new(alloc)))?;
+    Ok(Expr::Binary(Binary::Concat, first, second))
+}
+
+fn or_else_null(alloc: Global, text: Text) -> Result<Expr, EvalFault> {
+    let first = Boxed::new(alloc, Expr::Text(text))?;
+    Ok(Expr::OrElse(first, Boxed::new(alloc, Expr::Null)?))
+}
+
 fn around(alloc: Global, form: Form, text: Text) -> Result<Expr, EvalFault> {
     match form {
-        Form::Concat => {
-            let first = Boxed::new(alloc, Expr::Text(text))?;
-            let second = Boxed::new(alloc, Expr::Text(Text::new(alloc)))?;
-            Ok(Expr::Binary(Binary::Concat, first, second))
-        }
-        Form::List => {
-            let mut parts = Vec::new(alloc);
-            parts.push(Expr::Text(text))?;
-            Ok(Expr::List(Items::from_vec(parts)))
-        }
-        Form::Map => {
-            let mut parts = Vec::new(alloc);
-            parts.push((Text::new(alloc), Expr::Text(text)))?;
-            Ok(Expr::Map(Items::from_vec(parts)))
-        }
+        Form::Concat => concat_with_nothing(alloc, text),
+        Form::List => list_around(alloc, Expr::Text(text)),
+        Form::Map => map_around(alloc, Expr::Text(text)),
         Form::Literal => Ok(Expr::Lit(Value::Text(text))),
-        Form::OrElse => {
-            let first = Boxed::new(alloc, Expr::Text(text))?;
-            Ok(Expr::OrElse(first, Boxed::new(alloc, Expr::Null)?))
-        }
+        Form::OrElse => or_else_null(alloc, text),
     }
 }
 
 /// "..", [".."], {"":".."}
-const LENGTHS: [(Form, usize); 5] = [
+const LENGTHS: [(Form, u8); 5] = [
     (Form::Concat, 2),
     (Form::List, 4),
     (Form::Map, 7),
@@ -115,30 +128,37 @@ const LENGTHS: [(Form, usize); 5] = [
     (Form::OrElse, 2),
 ];
 
-fn too_large(answer: Result<Value, EvalFault>) -> bool {
-    match answer {
-        Err(EvalFault::TooLarge) => true,
-        _ => false,
-    }
+/// How long the compact text is of what the form gives around so many letters.
+fn length_around(alloc: Global, form: Form, count: usize) -> Result<u64, EvalFault> {
+    let made = around(alloc, form, letters(alloc, count)?)?;
+    Ok(text_len(&alone(alloc, &made)?))
+}
+
+fn ends_at_the_limit(alloc: Global, form: Form, besides: u8) -> bool {
+    let fits = length_around(alloc, form, 65_536 - besides as usize);
+    let long = length_around(alloc, form, 65_537 - besides as usize);
+    fits == Ok(65_536) && long == Err(EvalFault::TooLarge)
 }
 
 #[test]
 fn what_is_made_has_at_most_65536_bytes(rt: HostRuntime) -> Result<(), Fail> {
-    for (form, besides) in LENGTHS {
-        let fits = letters(rt.alloc(), 65_536 - besides)?;
-        let found = alone(rt.alloc(), &around(rt.alloc(), form, fits)?)?;
-        assert_eq!(rt; text_len(&found), 65_536, "{form:?}");
-        let long = letters(rt.alloc(), 65_537 - besides)?;
-        let answer = alone(rt.alloc(), &around(rt.alloc(), form, long)?);
-        assert!(rt; too_large(answer), "{form:?}");
+    for (place, (form, besides)) in LENGTHS.iter().enumerate() {
+        assert!(rt;
+            ends_at_the_limit(rt.alloc(), *form, *besides),
+            "row {place}"
+        );
     }
     Ok(())
 }
 
+fn length_of_text(alloc: Global, count: usize) -> Result<u64, EvalFault> {
+    let text = Expr::Text(letters(alloc, count)?);
+    Ok(text_len(&alone(alloc, &text)?))
+}
+
 #[test]
 fn a_text_has_no_limit_of_its_own(rt: HostRuntime) -> Result<(), Fail> {
-    let long = Expr::Text(letters(rt.alloc(), 70_000)?);
-    assert_eq!(rt; text_len(&alone(rt.alloc(), &long)?), 70_002);
+    assert!(rt; length_of_text(rt.alloc(), 70_000)? == 70_002);
     Ok(())
 }
 
@@ -146,9 +166,7 @@ fn a_text_has_no_limit_of_its_own(rt: HostRuntime) -> Result<(), Fail> {
 fn nested_lists(alloc: Global, levels: u32) -> Result<Expr, EvalFault> {
     let mut nested = Expr::Int(1);
     for _ in 0..levels {
-        let mut parts = Vec::new(alloc);
-        parts.push(nested)?;
-        nested = Expr::List(Items::from_vec(parts));
+        nested = list_around(alloc, nested)?;
     }
     Ok(nested)
 }
@@ -157,9 +175,7 @@ fn nested_lists(alloc: Global, levels: u32) -> Result<Expr, EvalFault> {
 fn nested_maps(alloc: Global, levels: u32) -> Result<Expr, EvalFault> {
     let mut nested = Expr::Int(1);
     for _ in 0..levels {
-        let mut parts = Vec::new(alloc);
-        parts.push((Text::new(alloc), nested))?;
-        nested = Expr::Map(Items::from_vec(parts));
+        nested = map_around(alloc, nested)?;
     }
     Ok(nested)
 }
@@ -172,7 +188,7 @@ fn appended(alloc: Global, levels: u32) -> Result<Expr, EvalFault> {
 }
 
 /// How levels are nested.
-#[derive(Clone, Copy, Debug)]
+#[derive(Clone, Copy)]
 enum Shape {
     Lists,
     Maps,
@@ -187,8 +203,9 @@ fn nested(alloc: Global, shape: Shape, levels: u32) -> Result<Expr, EvalFault> {
     }
 }
 
-fn depth_of(alloc: Global, expr: &Expr) -> Result<u32, EvalFault> {
-    Ok(depth(&alone(alloc, expr)?))
+fn depth_of(alloc: Global, shape: Shape, levels: u32) -> Result<u32, EvalFault> {
+    let made = nested(alloc, shape, levels)?;
+    Ok(depth(&alone(alloc, &made)?))
 }
 
 /// Shapes, levels and the nesting of what they give.
@@ -206,19 +223,25 @@ const LEVELS: [(Shape, u32, Result<u32, EvalFault>); 9] = [
 
 #[test]
 fn what_is_made_nests_at_most_32_deep(rt: HostRuntime) -> Result<(), Fail> {
-    for (shape, levels, wanted) in LEVELS {
-        let made = nested(rt.alloc(), shape, levels)?;
-        assert_eq!(rt; depth_of(rt.alloc(), &made), wanted, "{shape:?} {levels}");
+    for (place, (shape, levels, wanted)) in LEVELS.iter().enumerate() {
+        assert!(rt;
+            depth_of(rt.alloc(), *shape, *levels) == *wanted,
+            "row {place}"
+        );
     }
     Ok(())
 }
 
-/// A list of 65,536 bytes of compact text, as the whole context and after one more member.
-#[test]
-fn a_context_is_under_the_same_limits(rt: HostRuntime) -> Result<(), Fail> {
-    let mut members = Vec::new(rt.alloc());
-    members.push(Value::Text(letters(rt.alloc(), 65_532)?))?;
-    let context = Value::List(Items::from_vec(members));
+/// A list of 65,536 bytes of compact text.
+fn longest_list(alloc: Global) -> Result<Value, EvalFault> {
+    let mut members = Vec::new(alloc);
+    members.push(Value::Text(letters(alloc, 65_532)?))?;
+    Ok(Value::List(Items::from_vec(members)))
+}
+
+/// The length of what an expression gives where that list is the context.
+fn length_within(alloc: Global, expr: &Expr) -> Result<u64, EvalFault> {
+    let context = longest_list(alloc)?;
     let nothing = Value::Null;
     let env = Env {
         context: &context,
@@ -226,12 +249,30 @@ fn a_context_is_under_the_same_limits(rt: HostRuntime) -> Result<(), Fail> {
         params: &nothing,
         input: &nothing,
     };
-    let whole = Expr::Path(PathRoot::Context, Text::new(rt.alloc()));
-    let found = eval(rt.alloc(), &whole, &env)?;
-    assert_eq!(rt; text_len(&found), 65_536);
-    let first = Boxed::new(rt.alloc(), whole)?;
-    let second = Boxed::new(rt.alloc(), Expr::Int(1))?;
-    let longer = Expr::Binary(Binary::Append, first, second);
-    assert!(rt; too_large(eval(rt.alloc(), &longer, &env)));
+    Ok(text_len(&eval(alloc, expr, &env)?))
+}
+
+fn whole_context(alloc: Global) -> Expr {
+    Expr::Path(PathRoot::Context, Text::new(alloc))
+}
+
+#[test]
+fn a_whole_context_has_at_most_65536_bytes(rt: HostRuntime) -> Result<(), Fail> {
+    let whole = whole_context(rt.alloc());
+    assert!(rt; length_within(rt.alloc(), &whole)? == 65_536);
+    Ok(())
+}
+
+/// The context with one more member.
+fn longer_context(alloc: Global) -> Result<Expr, EvalFault> {
+    let first = Boxed::new(alloc, whole_context(alloc))?;
+    let second = Boxed::new(alloc, Expr::Int(1))?;
+    Ok(Expr::Binary(Binary::Append, first, second))
+}
+
+#[test]
+fn a_context_with_one_more_member_is_too_large(rt: HostRuntime) -> Result<(), Fail> {
+    let longer = longer_context(rt.alloc())?;
+    assert!(rt; length_within(rt.alloc(), &longer) == Err(EvalFault::TooLarge));
     Ok(())
 }

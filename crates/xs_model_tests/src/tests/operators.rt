@@ -1,7 +1,7 @@
 //! Each operator with each kind of operand.
 
+use crate::tests::applied::Applied;
 use crate::tests::given::{Given, KINDS, Wanted, gives, operand, same_kind};
-use sqlite_items::Boxed;
 use std::alloc::Global;
 use std::test::Fail;
 use xs_model::*;
@@ -24,170 +24,144 @@ const LESS: Binary = Binary::Compare(Comparison::Less);
 
 const LESS_OR_EQUAL: Binary = Binary::Compare(Comparison::LessOrEqual);
 
-fn binary(alloc: Global, op: Binary, a: Given, b: Given) -> Result<Expr, EvalFault> {
+pub(crate) fn binary(alloc: Global, op: Binary, a: Given, b: Given) -> Result<Expr, EvalFault> {
     Ok(Expr::Binary(op, operand(alloc, a)?, operand(alloc, b)?))
 }
 
 /// Arithmetic, as two numbers and what they give.
-const ARITHMETIC: [(Binary, i64, i64, Result<i64, EvalFault>); 25] = [
-    (ADD, 2, 3, Ok(5)),
-    (ADD, MOST, 0, Ok(MOST)),
-    (ADD, MOST, 1, Err(EvalFault::Range)),
-    (ADD, LEAST, -1, Err(EvalFault::Range)),
-    (ADD, LEAST, MOST, Ok(-1)),
-    (SUB, 2, 3, Ok(-1)),
-    (SUB, LEAST, 0, Ok(LEAST)),
-    (SUB, LEAST, 1, Err(EvalFault::Range)),
-    (SUB, 0, LEAST, Err(EvalFault::Range)),
-    (SUB, -1, LEAST, Ok(MOST)),
-    (MUL, -4, 3, Ok(-12)),
-    (MUL, LEAST, 1, Ok(LEAST)),
-    (MUL, LEAST, -1, Err(EvalFault::Range)),
-    (MUL, 4_294_967_296, 2_147_483_648, Err(EvalFault::Range)),
-    (MUL, -4_294_967_296, 2_147_483_648, Ok(LEAST)),
-    (DIV, 7, 2, Ok(3)),
-    (DIV, 7, -2, Ok(-3)),
-    (DIV, -7, 2, Ok(-3)),
-    (DIV, 1, 0, Err(EvalFault::Range)),
-    (DIV, LEAST, -1, Err(EvalFault::Range)),
-    (REM, 7, -2, Ok(1)),
-    (REM, -7, 2, Ok(-1)),
-    (REM, 1, 0, Err(EvalFault::Range)),
-    (REM, LEAST, -1, Ok(0)),
-    (REM, MOST, LEAST, Ok(MOST)),
+pub(crate) const ARITHMETIC: [(Applied, Wanted); 25] = [
+    (Applied::Numbers(ADD, 2, 3), Ok(Given::Int(5))),
+    (Applied::Numbers(ADD, MOST, 0), Ok(Given::Int(MOST))),
+    (Applied::Numbers(ADD, MOST, 1), Err(EvalFault::Range)),
+    (Applied::Numbers(ADD, LEAST, -1), Err(EvalFault::Range)),
+    (Applied::Numbers(ADD, LEAST, MOST), Ok(Given::Int(-1))),
+    (Applied::Numbers(SUB, 2, 3), Ok(Given::Int(-1))),
+    (Applied::Numbers(SUB, LEAST, 0), Ok(Given::Int(LEAST))),
+    (Applied::Numbers(SUB, LEAST, 1), Err(EvalFault::Range)),
+    (Applied::Numbers(SUB, 0, LEAST), Err(EvalFault::Range)),
+    (Applied::Numbers(SUB, -1, LEAST), Ok(Given::Int(MOST))),
+    (Applied::Numbers(MUL, -4, 3), Ok(Given::Int(-12))),
+    (Applied::Numbers(MUL, LEAST, 1), Ok(Given::Int(LEAST))),
+    (Applied::Numbers(MUL, LEAST, -1), Err(EvalFault::Range)),
+    (
+        Applied::Numbers(MUL, 4_294_967_296, 2_147_483_648),
+        Err(EvalFault::Range),
+    ),
+    (
+        Applied::Numbers(MUL, -4_294_967_296, 2_147_483_648),
+        Ok(Given::Int(LEAST)),
+    ),
+    (Applied::Numbers(DIV, 7, 2), Ok(Given::Int(3))),
+    (Applied::Numbers(DIV, 7, -2), Ok(Given::Int(-3))),
+    (Applied::Numbers(DIV, -7, 2), Ok(Given::Int(-3))),
+    (Applied::Numbers(DIV, 1, 0), Err(EvalFault::Range)),
+    (Applied::Numbers(DIV, LEAST, -1), Err(EvalFault::Range)),
+    (Applied::Numbers(REM, 7, -2), Ok(Given::Int(1))),
+    (Applied::Numbers(REM, -7, 2), Ok(Given::Int(-1))),
+    (Applied::Numbers(REM, 1, 0), Err(EvalFault::Range)),
+    (Applied::Numbers(REM, LEAST, -1), Ok(Given::Int(0))),
+    (Applied::Numbers(REM, MOST, LEAST), Ok(Given::Int(MOST))),
 ];
-
-#[test]
-fn numbers_stay_within_64_bits(rt: HostRuntime) -> Result<(), Fail> {
-    for (op, a, b, wanted) in ARITHMETIC {
-        let expr = binary(rt.alloc(), op, Given::Int(a), Given::Int(b))?;
-        let wanted = match wanted {
-            Ok(number) => Ok(Given::Int(number)),
-            Err(fault) => Err(fault),
-        };
-        assert!(rt; gives(rt.alloc(), &expr, wanted)?, "{op:?} {a} {b}");
-    }
-    Ok(())
-}
 
 /// Operators of two operands on the kinds that they take.
-const PAIRS: [(Binary, Given, Given, Given); 21] = [
+pub(crate) const PAIRS: [(Applied, Wanted); 21] = [
     (
-        Binary::Concat,
-        Given::Text("ab"),
-        Given::Text("c"),
-        Given::Text("abc"),
+        Applied::Binary(Binary::Concat, Given::Text("ab"), Given::Text("c")),
+        Ok(Given::Text("abc")),
     ),
     (
-        Binary::Concat,
-        Given::Text(""),
-        Given::Text(""),
-        Given::Text(""),
+        Applied::Binary(Binary::Concat, Given::Text(""), Given::Text("")),
+        Ok(Given::Text("")),
     ),
     (
-        Binary::Append,
-        Given::List(&[]),
-        Given::Int(1),
-        Given::List(&[1]),
+        Applied::Binary(Binary::Append, Given::List(&[]), Given::Int(1)),
+        Ok(Given::List(&[1])),
     ),
     (
-        Binary::Append,
-        Given::List(&[2, 1]),
-        Given::Int(3),
-        Given::List(&[2, 1, 3]),
+        Applied::Binary(Binary::Append, Given::List(&[2, 1]), Given::Int(3)),
+        Ok(Given::List(&[2, 1, 3])),
     ),
     (
-        Binary::Equal,
-        Given::Text("1"),
-        Given::Int(1),
-        Given::Bool(false),
+        Applied::Binary(Binary::Equal, Given::Text("1"), Given::Int(1)),
+        Ok(Given::Bool(false)),
     ),
     (
-        Binary::Equal,
-        Given::Text("1"),
-        Given::Text("01"),
-        Given::Bool(false),
+        Applied::Binary(Binary::Equal, Given::Text("1"), Given::Text("01")),
+        Ok(Given::Bool(false)),
     ),
     (
-        Binary::Equal,
-        Given::List(&[1, 2]),
-        Given::List(&[1, 2]),
-        Given::Bool(true),
+        Applied::Binary(Binary::Equal, Given::List(&[1, 2]), Given::List(&[1, 2])),
+        Ok(Given::Bool(true)),
     ),
     (
-        Binary::Equal,
-        Given::List(&[1, 2]),
-        Given::List(&[2, 1]),
-        Given::Bool(false),
+        Applied::Binary(Binary::Equal, Given::List(&[1, 2]), Given::List(&[2, 1])),
+        Ok(Given::Bool(false)),
     ),
     (
-        Binary::Equal,
-        Given::List(&[1, 2]),
-        Given::List(&[1]),
-        Given::Bool(false),
+        Applied::Binary(Binary::Equal, Given::List(&[1, 2]), Given::List(&[1])),
+        Ok(Given::Bool(false)),
     ),
     (
-        Binary::Equal,
-        Given::Map(&[("a", 1), ("b", 2)]),
-        Given::Map(&[("b", 2), ("a", 1)]),
-        Given::Bool(true),
+        Applied::Binary(
+            Binary::Equal,
+            Given::Map(&[("a", 1), ("b", 2)]),
+            Given::Map(&[("b", 2), ("a", 1)]),
+        ),
+        Ok(Given::Bool(true)),
     ),
     (
-        Binary::Equal,
-        Given::Map(&[("a", 1)]),
-        Given::Map(&[("b", 1)]),
-        Given::Bool(false),
+        Applied::Binary(
+            Binary::Equal,
+            Given::Map(&[("a", 1)]),
+            Given::Map(&[("b", 1)]),
+        ),
+        Ok(Given::Bool(false)),
     ),
     (
-        Binary::Equal,
-        Given::Map(&[("a", 1)]),
-        Given::Map(&[("a", 2)]),
-        Given::Bool(false),
-    ),
-    (LESS, Given::Int(-1), Given::Int(0), Given::Bool(true)),
-    (LESS, Given::Int(LEAST), Given::Int(MOST), Given::Bool(true)),
-    (LESS, Given::Int(1), Given::Int(1), Given::Bool(false)),
-    (
-        LESS_OR_EQUAL,
-        Given::Int(1),
-        Given::Int(1),
-        Given::Bool(true),
+        Applied::Binary(
+            Binary::Equal,
+            Given::Map(&[("a", 1)]),
+            Given::Map(&[("a", 2)]),
+        ),
+        Ok(Given::Bool(false)),
     ),
     (
-        LESS_OR_EQUAL,
-        Given::Int(2),
-        Given::Int(1),
-        Given::Bool(false),
-    ),
-    (LESS, Given::Text("B"), Given::Text("a"), Given::Bool(true)),
-    (
-        LESS,
-        Given::Text("b"),
-        Given::Text("aa"),
-        Given::Bool(false),
+        Applied::Binary(LESS, Given::Int(-1), Given::Int(0)),
+        Ok(Given::Bool(true)),
     ),
     (
-        LESS,
-        Given::Text("z"),
-        Given::Text("\u{e9}"),
-        Given::Bool(true),
+        Applied::Binary(LESS, Given::Int(LEAST), Given::Int(MOST)),
+        Ok(Given::Bool(true)),
     ),
     (
-        LESS_OR_EQUAL,
-        Given::Text("a"),
-        Given::Text("a"),
-        Given::Bool(true),
+        Applied::Binary(LESS, Given::Int(1), Given::Int(1)),
+        Ok(Given::Bool(false)),
+    ),
+    (
+        Applied::Binary(LESS_OR_EQUAL, Given::Int(1), Given::Int(1)),
+        Ok(Given::Bool(true)),
+    ),
+    (
+        Applied::Binary(LESS_OR_EQUAL, Given::Int(2), Given::Int(1)),
+        Ok(Given::Bool(false)),
+    ),
+    (
+        Applied::Binary(LESS, Given::Text("B"), Given::Text("a")),
+        Ok(Given::Bool(true)),
+    ),
+    (
+        Applied::Binary(LESS, Given::Text("b"), Given::Text("aa")),
+        Ok(Given::Bool(false)),
+    ),
+    (
+        Applied::Binary(LESS, Given::Text("z"), Given::Text("\u{e9}")),
+        Ok(Given::Bool(true)),
+    ),
+    (
+        Applied::Binary(LESS_OR_EQUAL, Given::Text("a"), Given::Text("a")),
+        Ok(Given::Bool(true)),
     ),
 ];
-
-#[test]
-fn operators_take_their_kinds(rt: HostRuntime) -> Result<(), Fail> {
-    for (op, a, b, wanted) in PAIRS {
-        let expr = binary(rt.alloc(), op, a, b)?;
-        assert!(rt; gives(rt.alloc(), &expr, Ok(wanted))?, "{op:?} {a:?} {b:?}");
-    }
-    Ok(())
-}
 
 /// Operators that want kinds of their operands, with operands of those kinds.
 const TYPED: [(Binary, Given, Given); 10] = [
@@ -207,134 +181,220 @@ fn refuses(alloc: Global, op: Binary, a: Given, b: Given) -> Result<bool, EvalFa
     gives(alloc, &binary(alloc, op, a, b)?, Err(EvalFault::Kind))
 }
 
+fn refuses_other_kinds(alloc: Global, row: &(Binary, Given, Given)) -> Result<bool, EvalFault> {
+    let (op, a, b) = *row;
+    for other in KINDS.iter() {
+        if !same_kind(*other, a)
+            && !(refuses(alloc, op, *other, b)? && refuses(alloc, op, a, *other)?)
+        {
+            return Ok(false);
+        }
+    }
+    Ok(true)
+}
+
 #[test]
 fn operators_refuse_other_kinds(rt: HostRuntime) -> Result<(), Fail> {
-    for (op, a, b) in TYPED {
-        for other in KINDS {
-            if !same_kind(other, a) {
-                assert!(rt;
-                    refuses(rt.alloc(), op, other, b)?,
-                    "{op:?} {other:?} {b:?}"
-                );
-                assert!(rt;
-                    refuses(rt.alloc(), op, a, other)?,
-                    "{op:?} {a:?} {other:?}"
-                );
-            }
-        }
+    for (place, row) in TYPED.iter().enumerate() {
+        assert!(rt; refuses_other_kinds(rt.alloc(), row)?, "row {place}");
     }
     Ok(())
 }
 
-#[test]
-fn append_takes_a_list_and_anything(rt: HostRuntime) -> Result<(), Fail> {
-    for member in KINDS {
-        let list = Given::List(&[1]);
-        let longer = binary(rt.alloc(), Binary::Append, list, member)?;
-        let len = Expr::Unary(Unary::Len, Boxed::new(rt.alloc(), longer)?);
-        assert!(rt; gives(rt.alloc(), &len, Ok(Given::Int(2)))?, "{member:?}");
-        if !same_kind(member, list) {
-            assert!(rt;
-                refuses(rt.alloc(), Binary::Append, member, list)?,
-                "{member:?}"
-            );
+/// Append takes a list first, and anything after it.
+pub(crate) const APPENDED: [(Applied, Wanted); 11] = [
+    (
+        Applied::Binary(Binary::Append, Given::Null, Given::List(&[1])),
+        Err(EvalFault::Kind),
+    ),
+    (
+        Applied::Binary(Binary::Append, Given::Bool(true), Given::List(&[1])),
+        Err(EvalFault::Kind),
+    ),
+    (
+        Applied::Binary(Binary::Append, Given::Int(1), Given::List(&[1])),
+        Err(EvalFault::Kind),
+    ),
+    (
+        Applied::Binary(Binary::Append, Given::Text("1"), Given::List(&[1])),
+        Err(EvalFault::Kind),
+    ),
+    (
+        Applied::Binary(Binary::Append, Given::Map(&[("1", 1)]), Given::List(&[1])),
+        Err(EvalFault::Kind),
+    ),
+    (
+        Applied::AppendedLen(Given::List(&[1]), Given::Null),
+        Ok(Given::Int(2)),
+    ),
+    (
+        Applied::AppendedLen(Given::List(&[1]), Given::Bool(true)),
+        Ok(Given::Int(2)),
+    ),
+    (
+        Applied::AppendedLen(Given::List(&[1]), Given::Int(1)),
+        Ok(Given::Int(2)),
+    ),
+    (
+        Applied::AppendedLen(Given::List(&[1]), Given::Text("1")),
+        Ok(Given::Int(2)),
+    ),
+    (
+        Applied::AppendedLen(Given::List(&[1]), Given::List(&[1])),
+        Ok(Given::Int(2)),
+    ),
+    (
+        Applied::AppendedLen(Given::List(&[1]), Given::Map(&[("1", 1)])),
+        Ok(Given::Int(2)),
+    ),
+];
+
+fn equals_its_kind_alone(alloc: Global, a: Given) -> Result<bool, EvalFault> {
+    for b in KINDS.iter() {
+        let wanted = Ok(Given::Bool(same_kind(a, *b)));
+        if !gives(alloc, &binary(alloc, Binary::Equal, a, *b)?, wanted)? {
+            return Ok(false);
         }
     }
-    Ok(())
+    Ok(true)
 }
 
 #[test]
 fn values_of_two_kinds_are_unequal(rt: HostRuntime) -> Result<(), Fail> {
-    for a in KINDS {
-        for b in KINDS {
-            let expr = binary(rt.alloc(), Binary::Equal, a, b)?;
-            let wanted = Ok(Given::Bool(same_kind(a, b)));
-            assert!(rt; gives(rt.alloc(), &expr, wanted)?, "{a:?} {b:?}");
-        }
+    for (place, kind) in KINDS.iter().enumerate() {
+        assert!(rt; equals_its_kind_alone(rt.alloc(), *kind)?, "kind {place}");
     }
     Ok(())
 }
 
 /// Both operands are evaluated, from left to right, before their kinds are looked at.
-const FAULTS: [(Binary, Given, Given, EvalFault); 7] = [
-    (ADD, Given::Missing, Given::OutOfRange, EvalFault::Missing),
-    (ADD, Given::OutOfRange, Given::Missing, EvalFault::Range),
-    (ADD, Given::Text("a"), Given::Missing, EvalFault::Missing),
-    (DIV, Given::Null, Given::OutOfRange, EvalFault::Range),
+pub(crate) const FAULTS: [(Applied, Wanted); 7] = [
     (
-        Binary::Concat,
-        Given::Int(1),
-        Given::Missing,
-        EvalFault::Missing,
+        Applied::Binary(ADD, Given::Missing, Given::OutOfRange),
+        Err(EvalFault::Missing),
     ),
     (
-        Binary::Append,
-        Given::Int(1),
-        Given::OutOfRange,
-        EvalFault::Range,
+        Applied::Binary(ADD, Given::OutOfRange, Given::Missing),
+        Err(EvalFault::Range),
     ),
     (
-        Binary::Equal,
-        Given::WrongKind,
-        Given::Missing,
-        EvalFault::Kind,
+        Applied::Binary(ADD, Given::Text("a"), Given::Missing),
+        Err(EvalFault::Missing),
+    ),
+    (
+        Applied::Binary(DIV, Given::Null, Given::OutOfRange),
+        Err(EvalFault::Range),
+    ),
+    (
+        Applied::Binary(Binary::Concat, Given::Int(1), Given::Missing),
+        Err(EvalFault::Missing),
+    ),
+    (
+        Applied::Binary(Binary::Append, Given::Int(1), Given::OutOfRange),
+        Err(EvalFault::Range),
+    ),
+    (
+        Applied::Binary(Binary::Equal, Given::WrongKind, Given::Missing),
+        Err(EvalFault::Kind),
     ),
 ];
 
-#[test]
-fn the_first_fault_is_the_answer(rt: HostRuntime) -> Result<(), Fail> {
-    for (op, a, b, fault) in FAULTS {
-        let expr = binary(rt.alloc(), op, a, b)?;
-        assert!(rt; gives(rt.alloc(), &expr, Err(fault))?, "{op:?} {a:?} {b:?}");
-    }
-    Ok(())
-}
-
 /// Operators of one operand.
-const SINGLE: [(Unary, Given, Wanted); 24] = [
-    (Unary::Decimal, Given::Int(0), Ok(Given::Text("0"))),
-    (Unary::Decimal, Given::Int(-10), Ok(Given::Text("-10"))),
+pub(crate) const SINGLE: [(Applied, Wanted); 24] = [
     (
-        Unary::Decimal,
-        Given::Int(LEAST),
+        Applied::Unary(Unary::Decimal, Given::Int(0)),
+        Ok(Given::Text("0")),
+    ),
+    (
+        Applied::Unary(Unary::Decimal, Given::Int(-10)),
+        Ok(Given::Text("-10")),
+    ),
+    (
+        Applied::Unary(Unary::Decimal, Given::Int(LEAST)),
         Ok(Given::Text("-9223372036854775808")),
     ),
     (
-        Unary::Decimal,
-        Given::Int(MOST),
+        Applied::Unary(Unary::Decimal, Given::Int(MOST)),
         Ok(Given::Text("9223372036854775807")),
     ),
-    (Unary::Decimal, Given::Null, Err(EvalFault::Kind)),
-    (Unary::Decimal, Given::Bool(true), Err(EvalFault::Kind)),
-    (Unary::Decimal, Given::Text("1"), Err(EvalFault::Kind)),
-    (Unary::Decimal, Given::List(&[1]), Err(EvalFault::Kind)),
-    (Unary::Decimal, Given::Map(&[]), Err(EvalFault::Kind)),
-    (Unary::Len, Given::List(&[]), Ok(Given::Int(0))),
-    (Unary::Len, Given::List(&[5, 5, 5]), Ok(Given::Int(3))),
     (
-        Unary::Len,
-        Given::Map(&[("a", 1), ("b", 1)]),
+        Applied::Unary(Unary::Decimal, Given::Null),
+        Err(EvalFault::Kind),
+    ),
+    (
+        Applied::Unary(Unary::Decimal, Given::Bool(true)),
+        Err(EvalFault::Kind),
+    ),
+    (
+        Applied::Unary(Unary::Decimal, Given::Text("1")),
+        Err(EvalFault::Kind),
+    ),
+    (
+        Applied::Unary(Unary::Decimal, Given::List(&[1])),
+        Err(EvalFault::Kind),
+    ),
+    (
+        Applied::Unary(Unary::Decimal, Given::Map(&[])),
+        Err(EvalFault::Kind),
+    ),
+    (
+        Applied::Unary(Unary::Len, Given::List(&[])),
+        Ok(Given::Int(0)),
+    ),
+    (
+        Applied::Unary(Unary::Len, Given::List(&[5, 5, 5])),
+        Ok(Given::Int(3)),
+    ),
+    (
+        Applied::Unary(Unary::Len, Given::Map(&[("a", 1), ("b", 1)])),
         Ok(Given::Int(2)),
     ),
-    (Unary::Len, Given::Text("\u{e9}\u{20ac}"), Ok(Given::Int(5))),
-    (Unary::Len, Given::Null, Err(EvalFault::Kind)),
-    (Unary::Len, Given::Bool(true), Err(EvalFault::Kind)),
-    (Unary::Len, Given::Int(1), Err(EvalFault::Kind)),
-    (Unary::Len, Given::Missing, Err(EvalFault::Missing)),
-    (Unary::Not, Given::Bool(true), Ok(Given::Bool(false))),
-    (Unary::Not, Given::Bool(false), Ok(Given::Bool(true))),
-    (Unary::Not, Given::Null, Err(EvalFault::Kind)),
-    (Unary::Not, Given::Int(0), Err(EvalFault::Kind)),
-    (Unary::Not, Given::Text(""), Err(EvalFault::Kind)),
-    (Unary::Not, Given::List(&[]), Err(EvalFault::Kind)),
-    (Unary::Not, Given::Map(&[]), Err(EvalFault::Kind)),
+    (
+        Applied::Unary(Unary::Len, Given::Text("\u{e9}\u{20ac}")),
+        Ok(Given::Int(5)),
+    ),
+    (
+        Applied::Unary(Unary::Len, Given::Null),
+        Err(EvalFault::Kind),
+    ),
+    (
+        Applied::Unary(Unary::Len, Given::Bool(true)),
+        Err(EvalFault::Kind),
+    ),
+    (
+        Applied::Unary(Unary::Len, Given::Int(1)),
+        Err(EvalFault::Kind),
+    ),
+    (
+        Applied::Unary(Unary::Len, Given::Missing),
+        Err(EvalFault::Missing),
+    ),
+    (
+        Applied::Unary(Unary::Not, Given::Bool(true)),
+        Ok(Given::Bool(false)),
+    ),
+    (
+        Applied::Unary(Unary::Not, Given::Bool(false)),
+        Ok(Given::Bool(true)),
+    ),
+    (
+        Applied::Unary(Unary::Not, Given::Null),
+        Err(EvalFault::Kind),
+    ),
+    (
+        Applied::Unary(Unary::Not, Given::Int(0)),
+        Err(EvalFault::Kind),
+    ),
+    (
+        Applied::Unary(Unary::Not, Given::Text("")),
+        Err(EvalFault::Kind),
+    ),
+    (
+        Applied::Unary(Unary::Not, Given::List(&[])),
+        Err(EvalFault::Kind),
+    ),
+    (
+        Applied::Unary(Unary::Not, Given::Map(&[])),
+        Err(EvalFault::Kind),
+    ),
 ];
-
-#[test]
-fn operators_of_one_operand(rt: HostRuntime) -> Result<(), Fail> {
-    for (op, a, wanted) in SINGLE {
-        let expr = Expr::Unary(op, operand(rt.alloc(), a)?);
-        assert!(rt; gives(rt.alloc(), &expr, wanted)?, "{op:?} {a:?}");
-    }
-    Ok(())
-}

@@ -1,5 +1,6 @@
 //! Paths, lists, maps and literals.
 
+use crate::tests::applied::Applied;
 use crate::tests::given::{Given, Wanted, agrees, expr, gives, put, value};
 use std::alloc::Global;
 use std::test::Fail;
@@ -8,19 +9,19 @@ use xs_model::*;
 
 /// {"":30,"a":[10,{"b":20}],"a.b":40}
 fn sample(alloc: Global) -> Result<Value, EvalFault> {
-    let mut members = Vec::new(alloc);
-    members.push(Value::Int(10))?;
-    members.push(value(alloc, Given::Map(&[("b", 20)]))?)?;
     let mut whole = Fields::new(alloc);
-    put(
-        alloc,
-        &mut whole,
-        "a",
-        Value::List(Items::from_vec(members)),
-    )?;
+    put(alloc, &mut whole, "a", sample_list(alloc)?)?;
     put(alloc, &mut whole, "a.b", Value::Int(40))?;
     put(alloc, &mut whole, "", Value::Int(30))?;
     Ok(Value::Map(whole))
+}
+
+/// [10,{"b":20}]
+fn sample_list(alloc: Global) -> Result<Value, EvalFault> {
+    let mut members = Vec::new(alloc);
+    members.push(Value::Int(10))?;
+    members.push(value(alloc, Given::Map(&[("b", 20)]))?)?;
+    Ok(Value::List(Items::from_vec(members)))
 }
 
 /// A step into a list is a place from 0 in decimal without leading zeros, and nothing else.
@@ -44,23 +45,33 @@ const PATHS: [(&str, Option<i64>); 17] = [
     ("a..0", None),
 ];
 
+fn number_at(whole: &Value, path: &str) -> Option<i64> {
+    match at_path(whole, path) {
+        Some(Value::Int(number)) => Some(*number),
+        _ => None,
+    }
+}
+
 #[test]
 fn paths_lead_through_lists_and_maps(rt: HostRuntime) -> Result<(), Fail> {
     let whole = sample(rt.alloc())?;
-    for (path, wanted) in PATHS {
-        let found = match at_path(&whole, path) {
-            Some(Value::Int(number)) => Some(*number),
-            _ => None,
-        };
-        assert_eq!(rt; found, wanted, "{path}");
+    for (path, wanted) in PATHS.iter() {
+        assert!(rt; number_at(&whole, path) == *wanted, "{path}");
     }
-    let found = at_path(&whole, "").ok_or(EvalFault::Missing)?;
-    assert!(rt; same(found, &whole));
     Ok(())
 }
 
-fn read(alloc: Global, root: PathRoot, path: &str) -> Result<Expr, EvalFault> {
-    Ok(Expr::Path(root, Text::from_str(alloc, path)?))
+fn leads_to_itself(whole: &Value) -> bool {
+    match at_path(whole, "") {
+        Some(found) => same(found, whole),
+        None => false,
+    }
+}
+
+#[test]
+fn the_empty_path_leads_to_the_whole(rt: HostRuntime) -> Result<(), Fail> {
+    assert!(rt; leads_to_itself(&sample(rt.alloc())?));
+    Ok(())
 }
 
 /// A root, a path and what they give beside a list, a map, a text and a number.
@@ -79,50 +90,81 @@ const READS: [(PathRoot, &str, Wanted); 12] = [
     (PathRoot::Input, "0", Err(EvalFault::Missing)),
 ];
 
-#[test]
-fn each_root_is_read_by_its_own_operator(rt: HostRuntime) -> Result<(), Fail> {
-    let context = value(rt.alloc(), Given::List(&[7, 8]))?;
-    let event = value(rt.alloc(), Given::Map(&[("01", 10), ("0", 9)]))?;
-    let params = value(rt.alloc(), Given::Text("0"))?;
-    let input = value(rt.alloc(), Given::Int(0))?;
+/// What the expression gives beside those values.
+fn read(alloc: Global, expr: &Expr) -> Result<Value, EvalFault> {
+    let context = value(alloc, Given::List(&[7, 8]))?;
+    let event = value(alloc, Given::Map(&[("01", 10), ("0", 9)]))?;
+    let params = value(alloc, Given::Text("0"))?;
+    let input = Value::Int(0);
     let env = Env {
         context: &context,
         event: &event,
         params: &params,
         input: &input,
     };
-    for (root, path, wanted) in READS {
-        let answer = eval(rt.alloc(), &read(rt.alloc(), root, path)?, &env);
-        assert!(rt; agrees(rt.alloc(), answer, wanted)?, "{root:?} {path}");
+    eval(alloc, expr, &env)
+}
+
+fn reads(alloc: Global, row: &(PathRoot, &str, Wanted)) -> Result<bool, EvalFault> {
+    let (root, path, wanted) = *row;
+    let expr = Expr::Path(root, Text::from_str(alloc, path)?);
+    agrees(alloc, read(alloc, &expr), wanted)
+}
+
+#[test]
+fn each_root_is_read_by_its_own_operator(rt: HostRuntime) -> Result<(), Fail> {
+    for (place, row) in READS.iter().enumerate() {
+        assert!(rt; reads(rt.alloc(), row)?, "row {place}");
     }
     Ok(())
 }
 
 /// Scalars, lists, maps and literals give themselves.
-#[test]
-fn data_gives_itself(rt: HostRuntime) -> Result<(), Fail> {
-    let rows = [
-        Given::Null,
-        Given::Bool(true),
-        Given::Int(-1),
-        Given::Text("\u{0}\""),
-        Given::List(&[]),
-        Given::List(&[2, 1]),
-        Given::Map(&[]),
-        Given::Map(&[("b", 1), ("a", 2)]),
-    ];
-    for given in rows {
-        assert!(rt;
-            gives(rt.alloc(), &expr(rt.alloc(), given)?, Ok(given))?,
-            "{given:?}"
-        );
-        let literal = Expr::Lit(value(rt.alloc(), given)?);
-        assert!(rt; gives(rt.alloc(), &literal, Ok(given))?, "{given:?}");
-    }
-    Ok(())
-}
+pub(crate) const DATA: [(Applied, Wanted); 20] = [
+    (Applied::Itself(Given::Null), Ok(Given::Null)),
+    (Applied::Itself(Given::Bool(true)), Ok(Given::Bool(true))),
+    (Applied::Itself(Given::Int(-1)), Ok(Given::Int(-1))),
+    (
+        Applied::Itself(Given::Text("\u{0}\"")),
+        Ok(Given::Text("\u{0}\"")),
+    ),
+    (Applied::Itself(Given::List(&[])), Ok(Given::List(&[]))),
+    (
+        Applied::Itself(Given::List(&[2, 1])),
+        Ok(Given::List(&[2, 1])),
+    ),
+    (Applied::Itself(Given::Map(&[])), Ok(Given::Map(&[]))),
+    (
+        Applied::Itself(Given::Map(&[("b", 1), ("a", 2)])),
+        Ok(Given::Map(&[("b", 1), ("a", 2)])),
+    ),
+    (Applied::Itself(Given::Int(1)), Ok(Given::Int(1))),
+    (Applied::Itself(Given::Text("1")), Ok(Given::Text("1"))),
+    (Applied::Itself(Given::List(&[1])), Ok(Given::List(&[1]))),
+    (
+        Applied::Itself(Given::Map(&[("1", 1)])),
+        Ok(Given::Map(&[("1", 1)])),
+    ),
+    (Applied::Literal(Given::Null), Ok(Given::Null)),
+    (Applied::Literal(Given::Bool(true)), Ok(Given::Bool(true))),
+    (Applied::Literal(Given::Int(-1)), Ok(Given::Int(-1))),
+    (
+        Applied::Literal(Given::Text("\u{0}\"")),
+        Ok(Given::Text("\u{0}\"")),
+    ),
+    (Applied::Literal(Given::List(&[])), Ok(Given::List(&[]))),
+    (
+        Applied::Literal(Given::List(&[2, 1])),
+        Ok(Given::List(&[2, 1])),
+    ),
+    (Applied::Literal(Given::Map(&[])), Ok(Given::Map(&[]))),
+    (
+        Applied::Literal(Given::Map(&[("b", 1), ("a", 2)])),
+        Ok(Given::Map(&[("b", 1), ("a", 2)])),
+    ),
+];
 
-fn list_of(alloc: Global, a: Given, b: Given) -> Result<Expr, EvalFault> {
+pub(crate) fn list_of(alloc: Global, a: Given, b: Given) -> Result<Expr, EvalFault> {
     let mut parts = Vec::new(alloc);
     parts.push(expr(alloc, a)?)?;
     parts.push(expr(alloc, b)?)?;
@@ -130,42 +172,50 @@ fn list_of(alloc: Global, a: Given, b: Given) -> Result<Expr, EvalFault> {
 }
 
 /// A map whose first part in the text has the greater key.
-fn map_of(alloc: Global, a: Given, b: Given) -> Result<Expr, EvalFault> {
+pub(crate) fn map_of(alloc: Global, a: Given, b: Given) -> Result<Expr, EvalFault> {
     let mut parts = Vec::new(alloc);
     parts.push((Text::from_str(alloc, "z")?, expr(alloc, a)?))?;
     parts.push((Text::from_str(alloc, "a")?, expr(alloc, b)?))?;
     Ok(Expr::Map(Items::from_vec(parts)))
 }
 
-/// Two parts in the order of the text, and the first fault.
-const PARTS: [(Given, Given, EvalFault); 4] = [
-    (Given::Missing, Given::OutOfRange, EvalFault::Missing),
-    (Given::OutOfRange, Given::Missing, EvalFault::Range),
-    (Given::Int(1), Given::WrongKind, EvalFault::Kind),
-    (Given::WrongKind, Given::Int(1), EvalFault::Kind),
+/// Two parts are evaluated in the order of the text, and the first fault is the answer; the
+/// members of a map are sorted by their keys.
+pub(crate) const PARTS: [(Applied, Wanted); 9] = [
+    (
+        Applied::List(Given::Missing, Given::OutOfRange),
+        Err(EvalFault::Missing),
+    ),
+    (
+        Applied::List(Given::OutOfRange, Given::Missing),
+        Err(EvalFault::Range),
+    ),
+    (
+        Applied::List(Given::Int(1), Given::WrongKind),
+        Err(EvalFault::Kind),
+    ),
+    (
+        Applied::List(Given::WrongKind, Given::Int(1)),
+        Err(EvalFault::Kind),
+    ),
+    (
+        Applied::Map(Given::Missing, Given::OutOfRange),
+        Err(EvalFault::Missing),
+    ),
+    (
+        Applied::Map(Given::OutOfRange, Given::Missing),
+        Err(EvalFault::Range),
+    ),
+    (
+        Applied::Map(Given::Int(1), Given::WrongKind),
+        Err(EvalFault::Kind),
+    ),
+    (
+        Applied::Map(Given::WrongKind, Given::Int(1)),
+        Err(EvalFault::Kind),
+    ),
+    (
+        Applied::Map(Given::Int(1), Given::Int(2)),
+        Ok(Given::Map(&[("a", 2), ("z", 1)])),
+    ),
 ];
-
-fn list_has(alloc: Global, a: Given, b: Given, fault: EvalFault) -> Result<bool, EvalFault> {
-    gives(alloc, &list_of(alloc, a, b)?, Err(fault))
-}
-
-fn map_has(alloc: Global, a: Given, b: Given, fault: EvalFault) -> Result<bool, EvalFault> {
-    gives(alloc, &map_of(alloc, a, b)?, Err(fault))
-}
-
-#[test]
-fn parts_are_evaluated_in_the_order_of_the_text(rt: HostRuntime) -> Result<(), Fail> {
-    for (a, b, fault) in PARTS {
-        assert!(rt; list_has(rt.alloc(), a, b, fault)?, "{a:?} {b:?}");
-        assert!(rt; map_has(rt.alloc(), a, b, fault)?, "{a:?} {b:?}");
-    }
-    Ok(())
-}
-
-#[test]
-fn members_are_sorted_by_their_keys(rt: HostRuntime) -> Result<(), Fail> {
-    let map = map_of(rt.alloc(), Given::Int(1), Given::Int(2))?;
-    let wanted = Ok(Given::Map(&[("a", 2), ("z", 1)]));
-    assert!(rt; gives(rt.alloc(), &map, wanted)?);
-    Ok(())
-}
