@@ -33,4 +33,3 @@ mod unfit;
 
 pub use asks::AskRefused;
 pub use forest::{Change, Forest};
-

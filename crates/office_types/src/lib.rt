@@ -36,4 +36,3 @@ pub use outcome::{Effect, Effects, End, FaultName, Outcome, Own, Texts, To};
 pub use request::{Ask, Replies, Reply, Request, Word};
 pub use request_line::{read_request, write_request};
 pub use state_values::state_value;
-

@@ -13,4 +13,3 @@ mod values;
 pub use base_text::write_office;
 pub use snapshot::deep;
 pub use validity::is_valid_office;
-

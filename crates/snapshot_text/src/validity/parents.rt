@@ -6,8 +6,8 @@ ghost use Rattle.office_types.specs.Records.{actor_record, is_active};
 ghost use Rattle.office_types.specs.ValidOffice.{HasParent, IsChildOf};
 ghost use Rattle.snapshot_text.specs.Validity.{AreListedOnce, HaveParents, RecordsRise, child_numbers, kid_numbers};
 
-use crate::validity::limits::is_active;
 use crate::records::find_record;
+use crate::validity::limits::is_active;
 use crate::validity::lookups::parent_of;
 use office_types::{ActorRecord, OfficeState};
 use std::alloc::{AllocError, Global};
