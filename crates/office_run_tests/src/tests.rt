@@ -55,60 +55,79 @@ fn failing(fails: &[u64]) -> Case<'_> {
     }
 }
 
-fn ended(alloc: Global, case: &Case) -> Result<Ended<MemoryStation>, Fail> {
+fn words_of(alloc: Global, case: &Case) -> Result<Vec<RcStr>, Fail> {
     let mut words = Vec::new(alloc);
     for word in case.words {
         words.push(RcStr::from_string(word.to_string(alloc)?)?)?;
     }
-    let source_fails = case.source_fails.to_vec(alloc)?;
-    let mut definitions = MemorySource::new(case.definitions.to_vec(alloc)?, source_fails)?;
+    Ok(words)
+}
+
+fn source_of(alloc: Global, case: &Case) -> Result<MemorySource, Fail> {
+    let fails = case.source_fails.to_vec(alloc)?;
+    Ok(MemorySource::new(case.definitions.to_vec(alloc)?, fails)?)
+}
+
+fn station_of(alloc: Global, case: &Case) -> Result<MemoryStation, Fail> {
     let input = case.input.to_vec(alloc)?;
     let fails = case.fails.to_vec(alloc)?;
-    let station = MemoryStation::new(input, Vec::new(alloc), Vec::new(alloc), fails)?;
+    Ok(MemoryStation::new(input, Vec::new(alloc), Vec::new(alloc), fails)?)
+}
+
+fn ended(alloc: Global, case: &Case) -> Result<Ended<MemoryStation>, Fail> {
+    let words = words_of(alloc, case)?;
+    let mut definitions = source_of(alloc, case)?;
+    let station = station_of(alloc, case)?;
     Ok(run(alloc, &words, &mut definitions, station))
 }
 
+// Whether the run ends with this status and this output.
+fn gives(alloc: Global, case: &Case, status: u8, output: &[u8]) -> Result<bool, Fail> {
+    let ended = ended(alloc, case)?;
+    Ok(ended.status == status && ended.station.output() == output)
+}
+
+// Lines of the input, and what they print.
+const SCRIPTS: [(&[u8], &[u8]); 5] = [
+    (SCRIPT, ANSWERS),
+    (b"", b""),
+    (b"\n", b"400 line\n"),
+    (b"turn", b"idle\n"),
+    (
+        b"turn\r\nvalue 01\nvalue 0\n",
+        b"400 line\n400 line\n404 actor 0\n",
+    ),
+];
+
 #[test]
 fn scripts_get_their_answers(rt: HostRuntime) -> Result<(), Fail> {
-    let rows: [(&[u8], &[u8]); 5] = [
-        (SCRIPT, ANSWERS),
-        (b"", b""),
-        (b"\n", b"400 line\n"),
-        (b"turn", b"idle\n"),
-        (
-            b"turn\r\nvalue 01\nvalue 0\n",
-            b"400 line\n400 line\n404 actor 0\n",
-        ),
-    ];
-    for (input, answers) in &rows {
-        let ended = ended(rt.alloc(), &script(input))?;
-        assert_eq!(rt; ended.status, 0);
-        assert_eq!(rt; ended.station.output(), *answers);
+    for (input, answers) in SCRIPTS.iter() {
+        assert!(rt; gives(rt.alloc(), &script(input), 0, answers)?);
     }
     Ok(())
 }
 
+// Words that are no call of the program.
+const OTHER_WORDS: [&[&str]; 9] = [
+    &[],
+    &["run"],
+    &["run", "a"],
+    &["run", "-a", "b"],
+    &["run", "a", ""],
+    &["check"],
+    &["check", "-a"],
+    &["check", "a", "b"],
+    &["serve", "a", "b", "127.0.0.1:80", "1", "1"],
+];
+
 #[test]
 fn words_are_refused(rt: HostRuntime) -> Result<(), Fail> {
-    let words: [&[&str]; 9] = [
-        &[],
-        &["run"],
-        &["run", "a"],
-        &["run", "-a", "b"],
-        &["run", "a", ""],
-        &["check"],
-        &["check", "-a"],
-        &["check", "a", "b"],
-        &["serve", "a", "b", "127.0.0.1:80", "1", "1"],
-    ];
-    for words in &words {
+    for words in OTHER_WORDS.iter() {
         let case = Case {
             words,
             ..script(SCRIPT)
         };
-        let ended = ended(rt.alloc(), &case)?;
-        assert_eq!(rt; ended.status, 2);
-        assert_eq!(rt; ended.station.output(), USAGE);
+        assert!(rt; gives(rt.alloc(), &case, 2, USAGE)?);
     }
     Ok(())
 }
@@ -159,27 +178,33 @@ const DEFINITIONS: [(&[u8], &[u8], &[u8]); 10] = [
     ),
 ];
 
+fn check(definitions: &[u8]) -> Case<'_> {
+    Case {
+        words: CHECK,
+        definitions,
+        ..script(SCRIPT)
+    }
+}
+
 #[test]
 fn definitions_are_counted_or_refused(rt: HostRuntime) -> Result<(), Fail> {
-    for (definitions, checked, refused) in &DEFINITIONS {
-        let case = Case {
-            words: CHECK,
-            definitions,
-            ..script(SCRIPT)
-        };
-        let ended = ended(rt.alloc(), &case)?;
+    for (definitions, checked, _) in DEFINITIONS.iter() {
         let is_counted = checked.starts_with(b"definitions machines");
-        assert_eq!(rt; ended.status, if is_counted { 0 } else { 3 });
-        assert_eq!(rt; ended.station.output(), *checked);
-        let run = self::ended(
-            rt.alloc(),
-            &Case {
-                definitions,
-                ..script(b"")
-            },
-        )?;
-        assert_eq!(rt; run.status, if refused.is_empty() { 0 } else { 3 });
-        assert_eq!(rt; run.station.output(), *refused);
+        let status = if is_counted { 0 } else { 3 };
+        assert!(rt; gives(rt.alloc(), &check(definitions), status, checked)?);
+    }
+    Ok(())
+}
+
+#[test]
+fn definitions_are_hosted_or_refused(rt: HostRuntime) -> Result<(), Fail> {
+    for (definitions, _, refused) in DEFINITIONS.iter() {
+        let case = Case {
+            definitions,
+            ..script(b"")
+        };
+        let status = if refused.is_empty() { 0 } else { 3 };
+        assert!(rt; gives(rt.alloc(), &case, status, refused)?);
     }
     Ok(())
 }
@@ -192,78 +217,90 @@ fn definitions_that_are_too_long_are_refused(rt: HostRuntime) -> Result<(), Fail
         definitions: spaces.as_slice(),
         ..script(b"")
     };
-    let ended = ended(rt.alloc(), &case)?;
-    assert_eq!(rt; ended.status, 3);
-    assert_eq!(rt;
-        ended.station.output(),
-        b"definitions json 6 1048576\n".as_slice()
-    );
+    assert!(rt; gives(rt.alloc(), &case, 3, b"definitions json 6 1048576\n")?);
     Ok(())
 }
 
-// The calls of the definitions' source: one read, and the read that finds the end. A third isn't made.
+fn failing_source(source_fails: &[u64]) -> Case<'_> {
+    Case {
+        source_fails,
+        ..script(SCRIPT)
+    }
+}
+
+// The calls of the definitions' source: one read, and the read that finds the end.
 #[test]
 fn definitions_that_fail_end_the_run(rt: HostRuntime) -> Result<(), Fail> {
-    let rows: [(&[u64], u8, &[u8]); 3] = [(&[1], 5, b""), (&[2], 5, b""), (&[3], 0, ANSWERS)];
-    for (source_fails, status, answers) in &rows {
-        let case = Case {
-            source_fails,
-            ..script(SCRIPT)
-        };
-        let ended = ended(rt.alloc(), &case)?;
-        assert_eq!(rt; ended.status, *status);
-        assert_eq!(rt; ended.station.output(), *answers);
+    for call in 1..=2 {
+        assert!(rt; gives(rt.alloc(), &failing_source(&[call]), 5, b"")?);
     }
     Ok(())
+}
+
+#[test]
+fn a_third_read_of_the_definitions_is_not_made(rt: HostRuntime) -> Result<(), Fail> {
+    assert!(rt; gives(rt.alloc(), &failing_source(&[3]), 0, ANSWERS)?);
+    Ok(())
+}
+
+// Whether a run whose call fails ends with this status, and has printed a beginning of the answers.
+fn begins(alloc: Global, call: u64, status: u8) -> Result<bool, Fail> {
+    let ended = ended(alloc, &failing(&[call]))?;
+    Ok(ended.status == status && ANSWERS.starts_with(ended.station.output()))
 }
 
 // The calls of the station over the script: one read, nine writes, and the read that finds the end.
 #[test]
 fn a_failing_call_ends_the_run(rt: HostRuntime) -> Result<(), Fail> {
     for call in 1..=11 {
-        let ended = ended(rt.alloc(), &failing(&[call]))?;
         let status = if call == 1 || call == 11 { 5 } else { 6 };
-        assert_eq!(rt; ended.status, status);
-        assert!(rt; ANSWERS.starts_with(ended.station.output()));
-        if call == 11 {
-            assert_eq!(rt; ended.station.output(), ANSWERS);
-        }
+        assert!(rt; begins(rt.alloc(), call, status)?);
     }
     Ok(())
 }
 
-// Two lines of a whole piece each: the first is answered before the second is read.
 #[test]
-fn a_line_is_answered_before_the_next_is_read(rt: HostRuntime) -> Result<(), Fail> {
-    let mut input = vec![in rt.alloc(); b'x'; 131_072]?;
+fn all_is_printed_before_the_last_call(rt: HostRuntime) -> Result<(), Fail> {
+    assert!(rt; gives(rt.alloc(), &failing(&[11]), 5, ANSWERS)?);
+    Ok(())
+}
+
+// Two lines of a whole piece each.
+fn two_pieces(alloc: Global) -> Result<Vec<u8>, Fail> {
+    let mut input = vec![in alloc; b'x'; 131_072]?;
     input[65_535] = b'\n';
     input[131_071] = b'\n';
+    Ok(input)
+}
+
+// The first line is answered before the second is read.
+#[test]
+fn a_line_is_answered_before_the_next_is_read(rt: HostRuntime) -> Result<(), Fail> {
+    let input = two_pieces(rt.alloc())?;
     let case = Case {
         fails: &[3],
         ..script(input.as_slice())
     };
-    let ended = ended(rt.alloc(), &case)?;
-    assert_eq!(rt; ended.status, 5);
-    assert_eq!(rt; ended.station.output(), b"400 line\n".as_slice());
+    assert!(rt; gives(rt.alloc(), &case, 5, b"400 line\n")?);
     Ok(())
+}
+
+fn are_the_statuses() -> bool {
+    EXIT_DONE == 0
+        && EXIT_USAGE == 2
+        && EXIT_REFUSED == 3
+        && EXIT_READ_FAULT == 5
+        && EXIT_WRITE_FAULT == 6
+        && EXIT_MEMORY == 8
+        && EXIT_INPUT_LONG == 9
+}
+
+fn are_the_texts() -> bool {
+    TOO_LONG == "input long\n" && UNHOSTED == "definitions\n"
 }
 
 // Definitions cite these constants, so no clause says what they are.
 #[test]
 fn constants_are_those_of_the_program(rt: HostRuntime) {
-    assert_eq!(rt; MAX_INPUT, 1_073_741_824);
-    assert_eq!(rt; TOO_LONG, "input long\n");
-    assert_eq!(rt; UNHOSTED, "definitions\n");
-    let statuses = [
-        (EXIT_DONE, 0),
-        (EXIT_USAGE, 2),
-        (EXIT_REFUSED, 3),
-        (EXIT_READ_FAULT, 5),
-        (EXIT_WRITE_FAULT, 6),
-        (EXIT_MEMORY, 8),
-        (EXIT_INPUT_LONG, 9),
-    ];
-    for (status, number) in &statuses {
-        assert_eq!(rt; *status, *number);
-    }
+    assert!(rt; MAX_INPUT == 1_073_741_824 && are_the_texts() && are_the_statuses());
 }

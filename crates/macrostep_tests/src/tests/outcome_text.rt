@@ -3,7 +3,7 @@
 //! active.
 
 use node_tree::Tree;
-use office_types::{Effect, End, Outcome, Texts, To, write_value};
+use office_types::{Effect, End, Outcome, Own, Texts, To, write_value};
 use std::alloc::Global;
 use std::str;
 use std::test::Fail;
@@ -15,49 +15,72 @@ pub(super) const MOST_TYPES: usize = 20;
 /// An outcome as a text.
 pub(super) fn outcome_text(alloc: Global, tree: &Tree, outcome: &Outcome) -> Result<String, Fail> {
     let mut text = String::new(alloc);
-    put_leaves(&mut text, tree, outcome.own.nodes.as_slice())?;
-    put_value(alloc, &mut text, &outcome.own.context)?;
-    if !outcome.own.children.is_empty() {
-        text.push_str(" children ")?;
-        put_texts(&mut text, &outcome.own.children)?;
+    put_own(alloc, &mut text, tree, &outcome.own)?;
+    put_types(alloc, &mut text, &outcome.micros)?;
+    put_effects(alloc, &mut text, outcome)?;
+    put_end(alloc, &mut text, &outcome.end)?;
+    Ok(text)
+}
+
+/// The active leaves, the context, and the children where there are any.
+fn put_own(alloc: Global, text: &mut String, tree: &Tree, own: &Own) -> Result<(), Fail> {
+    put_leaves(text, tree, own.nodes.as_slice())?;
+    put_value(alloc, text, &own.context)?;
+    if own.children.is_empty() {
+        return Ok(());
     }
+    text.push_str(" children ")?;
+    put_texts(text, &own.children)
+}
+
+/// The types of the events that were read, or how many they are.
+fn put_types(alloc: Global, text: &mut String, types: &Texts) -> Result<(), Fail> {
     text.push_str(" [")?;
-    if outcome.micros.len() <= MOST_TYPES {
-        put_texts(&mut text, &outcome.micros)?;
+    if types.len() <= MOST_TYPES {
+        put_texts(text, types)?;
     } else {
-        text.push_str(format!(in alloc; "{}", outcome.micros.len())?.as_str())?;
+        put_count(alloc, text, types.len())?;
     }
     text.push_str("]")?;
+    Ok(())
+}
+
+fn put_count(alloc: Global, text: &mut String, count: usize) -> Result<(), Fail> {
+    let count = format!(in alloc; "{count}")?;
+    text.push_str(count.as_str())?;
+    Ok(())
+}
+
+fn put_effects(alloc: Global, text: &mut String, outcome: &Outcome) -> Result<(), Fail> {
     for effect in outcome.effects.as_slice() {
-        put_effect(alloc, &mut text, effect)?;
+        put_effect(alloc, text, effect)?;
     }
-    match &outcome.end {
-        End::Active => {}
-        End::Done(output) => {
-            text.push_str(" done")?;
-            put_value(alloc, &mut text, output)?;
-        }
-        End::Error(error) => {
-            text.push_str(" error")?;
-            put_value(alloc, &mut text, error)?;
-        }
+    Ok(())
+}
+
+/// The end where the actor isn't active.
+fn put_end(alloc: Global, text: &mut String, end: &End) -> Result<(), Fail> {
+    match end {
+        End::Active => Ok(()),
+        End::Done(output) => put_told(alloc, text, " done", output),
+        End::Error(error) => put_told(alloc, text, " error", error),
     }
-    Ok(text)
+}
+
+fn put_told(alloc: Global, text: &mut String, word: &str, value: &Value) -> Result<(), Fail> {
+    text.push_str(word)?;
+    put_value(alloc, text, value)
 }
 
 /// The ids of the leaves among these nodes, or a dash where there is none.
 fn put_leaves(text: &mut String, tree: &Tree, nodes: &[u32]) -> Result<(), Fail> {
     for node in nodes {
         if *node < tree.len() && tree.node(*node).kind.is_leaf() {
-            if !text.is_empty() {
-                text.push_str(",")?;
-            }
+            text.push_str(if text.is_empty() { "" } else { "," })?;
             text.push_str(tree.node(*node).id.as_str())?;
         }
     }
-    if text.is_empty() {
-        text.push_str("-")?;
-    }
+    text.push_str(if text.is_empty() { "-" } else { "" })?;
     Ok(())
 }
 
@@ -87,14 +110,25 @@ fn put_word(text: &mut String, word: &str) -> Result<(), Fail> {
     Ok(())
 }
 
+/// Two words.
+fn put_words(text: &mut String, first: &str, second: &str) -> Result<(), Fail> {
+    put_word(text, first)?;
+    put_word(text, second)
+}
+
+/// A space and a number.
+fn put_number(alloc: Global, text: &mut String, number: u64) -> Result<(), Fail> {
+    let number = format!(in alloc; "{number}")?;
+    put_word(text, number.as_str())
+}
+
 /// What an effect asks for: a word and its parts, where a dash stands for an id or a name that
 /// isn't there.
 fn put_effect(alloc: Global, text: &mut String, effect: &Effect) -> Result<(), Fail> {
     match effect {
         Effect::Send { to, event } => {
             put_word(text, "send")?;
-            put_target(text, to)?;
-            put_value(alloc, text, event)
+            put_addressed(alloc, text, to, event)
         }
         Effect::Schedule {
             id,
@@ -102,33 +136,46 @@ fn put_effect(alloc: Global, text: &mut String, effect: &Effect) -> Result<(), F
             to,
             event,
         } => {
-            put_word(text, "schedule")?;
-            put_word(text, id.as_ref().map_or("-", |id| id.as_str()))?;
-            put_word(text, format!(in alloc; "{delay}")?.as_str())?;
-            put_target(text, to)?;
-            put_value(alloc, text, event)
+            let id = match id {
+                Some(id) => id.as_str(),
+                None => "-",
+            };
+            put_timer(alloc, text, id, *delay)?;
+            put_addressed(alloc, text, to, event)
         }
-        Effect::Cancel { id } => {
-            put_word(text, "cancel")?;
-            put_word(text, id.as_str())
-        }
+        Effect::Cancel { id } => put_words(text, "cancel", id.as_str()),
         Effect::Spawn {
             id,
             src,
             input,
             system,
         } => {
-            put_word(text, "spawn")?;
-            put_word(text, id.as_str())?;
-            put_word(text, format!(in alloc; "{src}")?.as_str())?;
+            let system = match system {
+                Some(name) => name.as_str(),
+                None => "-",
+            };
+            put_child(alloc, text, id.as_str(), u64::from(*src))?;
             put_value(alloc, text, input)?;
-            put_word(text, system.as_ref().map_or("-", |name| name.as_str()))
+            put_word(text, system)
         }
-        Effect::Stop { id } => {
-            put_word(text, "stop")?;
-            put_word(text, id.as_str())
-        }
+        Effect::Stop { id } => put_words(text, "stop", id.as_str()),
     }
+}
+
+fn put_timer(alloc: Global, text: &mut String, id: &str, delay: u64) -> Result<(), Fail> {
+    put_words(text, "schedule", id)?;
+    put_number(alloc, text, delay)
+}
+
+fn put_child(alloc: Global, text: &mut String, id: &str, src: u64) -> Result<(), Fail> {
+    put_words(text, "spawn", id)?;
+    put_number(alloc, text, src)
+}
+
+/// To whom an event is sent, and the event.
+fn put_addressed(alloc: Global, text: &mut String, to: &To, event: &Value) -> Result<(), Fail> {
+    put_target(text, to)?;
+    put_value(alloc, text, event)
 }
 
 /// To whom an event is sent.
@@ -136,13 +183,7 @@ fn put_target(text: &mut String, to: &To) -> Result<(), Fail> {
     match to {
         To::Own => put_word(text, "self"),
         To::Parent => put_word(text, "parent"),
-        To::Child(id) => {
-            put_word(text, "child")?;
-            put_word(text, id.as_str())
-        }
-        To::System(name) => {
-            put_word(text, "system")?;
-            put_word(text, name.as_str())
-        }
+        To::Child(id) => put_words(text, "child", id.as_str()),
+        To::System(name) => put_words(text, "system", name.as_str()),
     }
 }

@@ -88,6 +88,11 @@ fn fit(descriptor: &str, kind: &str) -> Option<usize> {
     }
 }
 
+/// What counting on from a number gives.
+fn counted(number: i64, more: i64) -> i64 {
+    number.wrapping_mul(31).wrapping_add(more) % 1_000_003
+}
+
 /// A number, or nothing for null.
 fn number_of(output: &Expr) -> Option<i64> {
     match output {
@@ -413,12 +418,17 @@ impl<'a> Actor<'a> {
             return Ok(());
         };
         self.act_all(event, &def.exit)?;
+        self.cancel_timers(def)?;
+        for invocation in def.invoke.as_slice() {
+            self.stop(invocation.id.as_str())?;
+        }
+        Ok(())
+    }
+
+    fn cancel_timers(&mut self, def: &NodeDef) -> Result<(), AllocError> {
         for (kind, _) in def.after.as_slice() {
             let kind = kind.as_str();
             self.tell(format!(in self.alloc; " cancel {kind}")?)?;
-        }
-        for invocation in def.invoke.as_slice() {
-            self.stop(invocation.id.as_str())?;
         }
         Ok(())
     }
@@ -426,19 +436,33 @@ impl<'a> Actor<'a> {
     fn enter(&mut self, event: &Event, entered: &[u32]) -> Result<(), AllocError> {
         for node in entered {
             self.active.push(*node)?;
-            let Some(def) = self.def.nodes.get(*node as usize) else {
-                continue;
-            };
-            self.act_all(event, &def.entry)?;
-            for (kind, delay) in def.after.as_slice() {
-                self.start_timer(kind.as_str(), delay)?;
+            if let Some(def) = self.def.nodes.get(*node as usize) {
+                self.enter_one(event, *node, def)?;
             }
-            for invocation in def.invoke.as_slice() {
-                self.spawn(invocation.id.as_str())?;
-            }
-            if let Kind::Final = self.nodes.kind(*node) {
-                self.raise_done(*node, &def.output)?;
-            }
+        }
+        Ok(())
+    }
+
+    fn enter_one(&mut self, event: &Event, node: u32, def: &NodeDef) -> Result<(), AllocError> {
+        self.act_all(event, &def.entry)?;
+        self.start_timers(def)?;
+        self.invoke_all(def)?;
+        match self.nodes.kind(node) {
+            Kind::Final => self.raise_done(node, &def.output),
+            _ => Ok(()),
+        }
+    }
+
+    fn invoke_all(&mut self, def: &NodeDef) -> Result<(), AllocError> {
+        for invocation in def.invoke.as_slice() {
+            self.spawn(invocation.id.as_str())?;
+        }
+        Ok(())
+    }
+
+    fn start_timers(&mut self, def: &NodeDef) -> Result<(), AllocError> {
+        for (kind, delay) in def.after.as_slice() {
+            self.start_timer(kind.as_str(), delay)?;
         }
         Ok(())
     }
@@ -541,7 +565,7 @@ impl<'a> Actor<'a> {
             -1 => i64::try_from(event.kind.len()).unwrap_or(0),
             _ => code,
         };
-        self.number = self.number.wrapping_mul(31).wrapping_add(more) % 1_000_003;
+        self.number = counted(self.number, more);
     }
 
     fn tell(&mut self, effect: String) -> Result<(), AllocError> {
@@ -574,15 +598,7 @@ impl<'a> Actor<'a> {
 
     /// The active leaves, the context and the children.
     fn state_text(&self) -> Result<String, AllocError> {
-        let mut text = String::new(self.alloc);
-        for node in 0..self.nodes.count {
-            if self.active.contains(&node) && self.nodes.is_leaf(node) {
-                if !text.is_empty() {
-                    text.push_str(",")?;
-                }
-                text.push_str(self.id(node))?;
-            }
-        }
+        let mut text = self.leaves_text()?;
         text.push_str(format!(in self.alloc; " {{\"n\":{}}}", self.number)?.as_str())?;
         for (place, child) in self.children.iter().enumerate() {
             text.push_str(if place == 0 { " children " } else { "," })?;
@@ -591,29 +607,52 @@ impl<'a> Actor<'a> {
         Ok(text)
     }
 
+    fn leaves_text(&self) -> Result<String, AllocError> {
+        let mut text = String::new(self.alloc);
+        for node in 0..self.nodes.count {
+            if self.active.contains(&node) && self.nodes.is_leaf(node) {
+                text.push_str(if text.is_empty() { "" } else { "," })?;
+                text.push_str(self.id(node))?;
+            }
+        }
+        Ok(text)
+    }
+
     /// What a step gives that left this state.
     fn text(&self, state: String) -> Result<String, AllocError> {
         let mut text = state;
-        if let Some(name) = self.fault {
-            text.push_str(format!(in self.alloc; " [] error {{\"fault\":\"{name}\"}}")?.as_str())?;
-            return Ok(text);
-        }
-        text.push_str(" [")?;
-        if self.types.len() > MOST_TYPES {
-            text.push_str(format!(in self.alloc; "{}", self.types.len())?.as_str())?;
-        } else {
-            for (place, kind) in self.types.iter().enumerate() {
-                text.push_str(if place == 0 { "" } else { "," })?;
-                text.push_str(kind.as_str())?;
+        match self.fault {
+            Some(name) => {
+                let told = format!(in self.alloc; " [] error {{\"fault\":\"{name}\"}}")?;
+                text.push_str(told.as_str())?;
             }
+            None => self.put_step(&mut text)?,
         }
-        text.push_str("]")?;
+        Ok(text)
+    }
+
+    /// The types that were read, the effects, and the end where it is done.
+    fn put_step(&self, text: &mut String) -> Result<(), AllocError> {
+        self.put_types(text)?;
         text.push_str(self.effects.as_str())?;
         if self.is_done {
             text.push_str(" done ")?;
             text.push_str(self.output()?.as_str())?;
         }
-        Ok(text)
+        Ok(())
+    }
+
+    fn put_types(&self, text: &mut String) -> Result<(), AllocError> {
+        if self.types.len() > MOST_TYPES {
+            let count = format!(in self.alloc; " [{}]", self.types.len())?;
+            return text.push_str(count.as_str());
+        }
+        text.push_str(" [")?;
+        for (place, kind) in self.types.iter().enumerate() {
+            text.push_str(if place == 0 { "" } else { "," })?;
+            text.push_str(kind.as_str())?;
+        }
+        text.push_str("]")
     }
 
     /// The output of the root's final child, or null.

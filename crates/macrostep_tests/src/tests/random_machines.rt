@@ -31,19 +31,29 @@ struct Draft {
     levels: Vec<u32>,
     count: u32,
     state: u64,
+    is_whole: bool,
+}
+
+/// The number that decides after this one.
+fn following(state: u64) -> u64 {
+    state
+        .wrapping_mul(6_364_136_223_846_793_005)
+        .wrapping_add(1_442_695_040_888_963_407)
+}
+
+/// A number below `end` by the upper half of another one, or 0.
+fn share(state: u64, end: u32) -> u32 {
+    if end == 0 {
+        return 0;
+    }
+    ((state >> 33) % u64::from(end)) as u32
 }
 
 impl Draft {
     /// A number below `end`, or 0.
     fn below(&mut self, end: u32) -> u32 {
-        self.state = self
-            .state
-            .wrapping_mul(6_364_136_223_846_793_005)
-            .wrapping_add(1_442_695_040_888_963_407);
-        if end == 0 {
-            return 0;
-        }
-        ((self.state >> 33) % u64::from(end)) as u32
+        self.state = following(self.state);
+        share(self.state, end)
     }
 
     /// Whether one of so many comes up.
@@ -61,89 +71,97 @@ impl Draft {
         self.levels.get(node as usize).copied().unwrap_or(0)
     }
 
-    fn put(&mut self, text: &str) -> Result<(), AllocError> {
-        self.text.push_str(text)
+    /// Puts a text at the end; where no memory is left, the draft isn't whole from then on.
+    fn put(&mut self, text: &str) {
+        let is_put = self.text.push_str(text).is_ok();
+        self.is_whole = self.is_whole && is_put;
     }
 
-    fn put_number_within(
-        &mut self,
-        before: &str,
-        number: u32,
-        behind: &str,
-    ) -> Result<(), AllocError> {
-        let whole = format!(in self.alloc; "{before}{number}{behind}")?;
-        self.put(whole.as_str())
+    fn put_level(&mut self, level: u32) {
+        let is_put = self.levels.push(level).is_ok();
+        self.is_whole = self.is_whole && is_put;
     }
 
-    fn put_number(&mut self, text: &str, number: u32) -> Result<(), AllocError> {
-        self.put_number_within(text, number, "")
+    fn put_digits(&mut self, number: u32) {
+        match format!(in self.alloc; "{number}") {
+            Ok(digits) => self.put(digits.as_str()),
+            Err(_) => self.is_whole = false,
+        }
     }
 
-    fn put_numbered(&mut self, text: &str, number: u32) -> Result<(), AllocError> {
-        self.put_number_within(text, number, "\"")
+    fn put_number_within(&mut self, before: &str, number: u32, behind: &str) {
+        self.put(before);
+        self.put_digits(number);
+        self.put(behind);
+    }
+
+    fn put_number(&mut self, text: &str, number: u32) {
+        self.put_number_within(text, number, "");
+    }
+
+    fn put_numbered(&mut self, text: &str, number: u32) {
+        self.put_number_within(text, number, "\"");
     }
 
     /// A text, one of so many times.
-    fn put_one_of(&mut self, many: u32, text: &str) -> Result<(), AllocError> {
+    fn put_one_of(&mut self, many: u32, text: &str) {
         if self.below(many) == 0 {
-            return self.put(text);
+            self.put(text);
         }
-        Ok(())
     }
 
     /// A transition behind a text, one of so many times.
-    fn put_transition_one_of(&mut self, many: u32, before: &str) -> Result<(), AllocError> {
+    fn put_transition_one_of(&mut self, many: u32, before: &str) {
         if self.below(many) == 0 {
-            return self.put_transition(before);
+            self.put_transition(before);
         }
-        Ok(())
     }
 
     /// Levels of nodes: a node is below the one before it, or beside that or one above it.
-    fn draw_levels(&mut self) -> Result<(), AllocError> {
+    fn draw_levels(&mut self) {
         self.count = self.below(10).saturating_add(2);
-        self.levels.push(0)?;
+        self.put_level(0);
         for node in 1..self.count {
             let deepest = self.level(node - 1).saturating_add(1);
             let level = self.below(deepest).saturating_add(1);
-            self.levels.push(level)?;
+            self.put_level(level);
         }
-        Ok(())
     }
 
     /// The text of definitions with one machine.
-    fn put_machine(&mut self) -> Result<(), AllocError> {
-        self.draw_levels()?;
-        self.put("{\"machines\":[{\"context\":{\"n\":0},\"output\":{\"$event\":\"output\"},")?;
+    fn put_machine(&mut self) {
+        self.draw_levels();
+        self.put("{\"machines\":[{\"context\":{\"n\":0},\"output\":{\"$event\":\"output\"},");
         for node in 0..self.count {
-            self.put_node(node)?;
-            self.put_end(node)?;
+            self.put_node(node);
+            self.put_end(node);
         }
-        self.put("],\"implementations\":")?;
-        self.put(TABLE)?;
-        self.put("}")
+        self.put("],\"implementations\":");
+        self.put(TABLE);
+        self.put("}");
     }
 
     /// What stands between a node and the next one, or behind the last one.
-    fn put_end(&mut self, node: u32) -> Result<(), AllocError> {
+    fn put_end(&mut self, node: u32) {
         let next = node.saturating_add(1);
         if self.level(next) > self.level(node) {
-            return self.put(",\"states\":{");
+            self.put(",\"states\":{");
+            return;
         }
-        self.put("}")?;
+        self.put("}");
         for _ in self.level(next)..self.level(node) {
-            self.put("}}")?;
+            self.put("}}");
         }
-        self.put(if next < self.count { "," } else { "" })
+        self.put(if next < self.count { "," } else { "" });
     }
 
     /// A node without its children, and without its end.
-    fn put_node(&mut self, node: u32) -> Result<(), AllocError> {
+    fn put_node(&mut self, node: u32) {
         if node > 0 {
-            self.put_numbered("\"k", node)?;
-            self.put(":{")?;
+            self.put_numbered("\"k", node);
+            self.put(":{");
         }
-        self.put_numbered("\"id\":\"n", node)?;
+        self.put_numbered("\"id\":\"n", node);
         let next = node.saturating_add(1);
         let is_parent = self.level(next) > self.level(node);
         let is_first = self.level(node) > self.level(node.saturating_sub(1));
@@ -151,93 +169,89 @@ impl Draft {
             0 if !is_parent && !is_first && node > 0 => self.put_history(node),
             1 if !is_parent && node > 0 => self.put_final(node),
             0 | 1 if is_parent => self.put_state(",\"type\":\"parallel", node),
-            _ if is_parent => self.put_state(
-                format!(in self.alloc; ",\"initial\":\"k{next}")?.as_str(),
-                node,
-            ),
+            _ if is_parent => {
+                self.put_number(",\"initial\":\"k", next);
+                self.put_state("", node);
+            }
             _ => self.put_state(",\"description\":\"", node),
         }
     }
 
     /// What a node says that is neither final nor a history node.
-    fn put_state(&mut self, kind: &str, node: u32) -> Result<(), AllocError> {
-        self.put(kind)?;
-        self.put("\"")?;
-        self.put_acts()?;
-        self.put(",\"on\":{\"D\":{}")?;
-        self.put_transition_one_of(2, ",\"A\":")?;
-        self.put_transition_one_of(2, ",\"B\":")?;
-        self.put_transition_one_of(2, ",\"C\":")?;
-        self.put("}")?;
-        self.put_transition_one_of(10, ",\"always\":")?;
+    fn put_state(&mut self, kind: &str, node: u32) {
+        self.put(kind);
+        self.put("\"");
+        self.put_acts();
+        self.put(",\"on\":{\"D\":{}");
+        self.put_transition_one_of(2, ",\"A\":");
+        self.put_transition_one_of(2, ",\"B\":");
+        self.put_transition_one_of(2, ",\"C\":");
+        self.put("}");
+        self.put_transition_one_of(10, ",\"always\":");
         if node > 0 {
-            self.put_transition_one_of(2, ",\"onDone\":")?;
+            self.put_transition_one_of(2, ",\"onDone\":");
         }
-        self.put_timer()?;
-        self.put_one_of(6, ",\"invoke\":{\"src\":\"kid\"}")
+        self.put_timer();
+        self.put_one_of(6, ",\"invoke\":{\"src\":\"kid\"}");
     }
 
-    fn put_timer(&mut self) -> Result<(), AllocError> {
+    fn put_timer(&mut self) {
         if self.one_of(6) {
-            self.put_transition(",\"after\":{\"5\":")?;
-            return self.put("}");
+            self.put_transition(",\"after\":{\"5\":");
+            self.put("}");
         }
-        Ok(())
     }
 
-    fn put_history(&mut self, node: u32) -> Result<(), AllocError> {
-        self.put(",\"type\":\"history\"")?;
-        self.put_one_of(2, ",\"history\":\"deep\"")?;
+    fn put_history(&mut self, node: u32) {
+        self.put(",\"type\":\"history\"");
+        self.put_one_of(2, ",\"history\":\"deep\"");
         if self.one_of(2) {
-            return self.put_numbered(",\"target\":\"#n", node.saturating_sub(1));
+            self.put_numbered(",\"target\":\"#n", node.saturating_sub(1));
         }
-        Ok(())
     }
 
-    fn put_final(&mut self, node: u32) -> Result<(), AllocError> {
-        self.put(",\"type\":\"final\"")?;
-        self.put_acts()?;
+    fn put_final(&mut self, node: u32) {
+        self.put(",\"type\":\"final\"");
+        self.put_acts();
         if self.one_of(2) {
-            return self.put_number(",\"output\":", node);
+            self.put_number(",\"output\":", node);
         }
-        Ok(())
     }
 
-    fn put_acts(&mut self) -> Result<(), AllocError> {
+    fn put_acts(&mut self) {
         if self.one_of(2) {
-            self.put_actions(",\"entry\":")?;
+            self.put_actions(",\"entry\":");
         }
         if self.one_of(2) {
-            return self.put_actions(",\"exit\":");
+            self.put_actions(",\"exit\":");
         }
-        Ok(())
     }
 
-    fn put_transition(&mut self, before: &str) -> Result<(), AllocError> {
-        self.put(before)?;
-        self.put_actions("{\"actions\":")?;
-        self.put_targets()?;
-        self.put_one_of(3, ",\"reenter\":true")?;
+    fn put_transition(&mut self, before: &str) {
+        self.put(before);
+        self.put_actions("{\"actions\":");
+        self.put_targets();
+        self.put_one_of(3, ",\"reenter\":true");
         if self.one_of(2) {
-            self.put_guard()?;
+            self.put_guard();
         }
-        self.put("}")
+        self.put("}");
     }
 
-    fn put_targets(&mut self) -> Result<(), AllocError> {
+    fn put_targets(&mut self) {
         if self.one_of(5) {
-            return Ok(());
+            return;
         }
         let target = self.node();
-        self.put_numbered(",\"target\":[\"#n", target)?;
+        self.put_numbered(",\"target\":[\"#n", target);
         if self.one_of(40) {
             let target = self.node();
-            self.put_numbered(",\"#n", target)?;
+            self.put_numbered(",\"#n", target);
         }
-        self.put("]")
+        self.put("]");
     }
 
-    fn put_guard(&mut self) -> Result<(), AllocError> {
+    fn put_guard(&mut self) {
         let node = self.node();
         match self.below(16) {
             0 => self.put(",\"guard\":{\"type\":\"test\",\"params\":\"gone\"}"),
@@ -248,10 +262,10 @@ impl Draft {
         }
     }
 
-    fn put_actions(&mut self, before: &str) -> Result<(), AllocError> {
-        self.put(before)?;
+    fn put_actions(&mut self, before: &str) {
+        self.put(before);
         let code = self.below(100);
-        self.put_number("[{\"type\":\"count\",\"params\":", code)?;
+        self.put_number("[{\"type\":\"count\",\"params\":", code);
         let more = match self.below(40) {
             0 => "},{\"type\":\"count\",\"params\":-3}]",
             1..4 => "},{\"type\":\"count\",\"params\":-2}]",
@@ -263,7 +277,7 @@ impl Draft {
             16 => "},\"spawn\"]",
             _ => "}]",
         };
-        self.put(more)
+        self.put(more);
     }
 
     /// The type of an event that may come.
@@ -324,16 +338,27 @@ fn steps_agree(
     Ok(())
 }
 
-/// Whether a machine that this number makes is one; its steps agree then.
-fn agrees(rt: &impl Abort, alloc: Global, seed: u64) -> Result<bool, Fail> {
+/// The draft that a number makes.
+fn drafted(alloc: Global, seed: u64) -> Result<Draft, Fail> {
     let mut draft = Draft {
         alloc,
         text: String::new(alloc),
         levels: Vec::new(alloc),
         count: 0,
         state: seed,
+        is_whole: true,
     };
-    draft.put_machine()?;
+    draft.put_machine();
+    if draft.is_whole {
+        Ok(draft)
+    } else {
+        Err(Fail::from("memory"))
+    }
+}
+
+/// Whether a machine that this number makes is one; its steps agree then.
+fn agrees(rt: &impl Abort, alloc: Global, seed: u64) -> Result<bool, Fail> {
+    let mut draft = drafted(alloc, seed)?;
     let Ok(defs) = read_defs(alloc, draft.text.as_bytes()) else {
         return Ok(false);
     };
