@@ -2,10 +2,10 @@
 use Rattle.std.proofs.Common.{◌≡◌, List, ℕ, None, Some, Result, Ok, Err, sym, ap, ◌∙◌}
 use Rattle.ordered_json.specs.declared.json.OrderedJson.{OrderedJson}
 use Rattle.ordered_json.specs.Meaning.{Means}
-use Rattle.office_core.specs.declared.flat.FlatMachine.{FlatMachine}
-use Rattle.office_core.specs.declared.flat_text.FlatFault.{FlatFault}
-use Rattle.office_core.specs.declared.flat_text.FlatFault.TheVariants.{NotFlat, Memory}
-use Rattle.office_core.specs.FlatText.{ReadsOffice, office_in}
+use Rattle.flat_core.specs.declared.flat.FlatMachine.{FlatMachine}
+use Rattle.flat_core.specs.declared.flat_text.FlatFault.{FlatFault}
+use Rattle.flat_core.specs.declared.flat_text.FlatFault.TheVariants.{NotFlat, Memory}
+use Rattle.flat_core.specs.FlatText.{ReadsOffice, office_in}
 use Rattle.office_run.specs.Definitions.{ReadsFlat}
 
 none_some : {X : Type 0} {x : X} → None ≡ Some x → ⊥

@@ -5,7 +5,7 @@ use Rattle.std.specs.Prelude.{position}
 use Rattle.std.specs.List.{position_or_len}
 use Rattle.std.proofs.lemmas.Bool.Decides.{nat_tests}
 use Rattle.xs_data.specs.Ascii.{line_feed}
-use Rattle.office_core.specs.declared.request_line.TheConstants.{MAX_LINE}
+use Rattle.flat_core.specs.declared.request_line.TheConstants.{MAX_LINE}
 use Rattle.office_run.specs.declared.line_buffer.LineBuffer.{LineBuffer}
 use Rattle.office_run.specs.Lines.{is_feed, has_feed}
 use Rattle.office_run.specs.declared.input.Next.TheVariants as next

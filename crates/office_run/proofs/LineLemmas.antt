@@ -3,8 +3,8 @@ use Rattle.std.proofs.Common.{◌≡◌, ℕ, ◌^◌, ◌<◌, ◌≤◌, List,
 use Rattle.std.specs.Prelude.{decimal, codes}
 use Rattle.std.proofs.lemmas.Fmt.{length-decimal-le}
 use Rattle.std.proofs.lemmas.List.{take_all}
-use Rattle.office_core.specs.declared.request_line.TheConstants.{MAX_LINE}
-use Rattle.office_core.specs.RequestLine.{spaced_text}
+use Rattle.flat_core.specs.declared.request_line.TheConstants.{MAX_LINE}
+use Rattle.flat_core.specs.RequestLine.{spaced_text}
 use Rattle.office_run.specs.declared.line_buffer.LineBuffer.{LineBuffer}
 use Rattle.office_run.specs.declared.script.Line.{Line}
 use Rattle.office_run.specs.declared.script.Line.TheVariants.{Request, Turn, Value, Malformed}

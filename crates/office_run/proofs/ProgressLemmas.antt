@@ -5,8 +5,8 @@ use Rattle.std.proofs.lemmas.Bool.{false≢true}
 use Rattle.std.proofs.lemmas.List.{append-nil}
 use Rattle.std.proofs.Math.Seq.{take-append_seam, take-append-add}
 use Rattle.xs_data.specs.Ascii.{line_feed}
-use Rattle.office_core.specs.declared.flat.FlatMachine.{FlatMachine}
-use Rattle.office_core.specs.Office.{Office, empty_office}
+use Rattle.flat_core.specs.declared.flat.FlatMachine.{FlatMachine}
+use Rattle.flat_core.specs.Office.{Office, empty_office}
 use Rattle.office_run.specs.declared.input.TheConstants.{MAX_INPUT}
 use Rattle.office_run.specs.declared.program.TheConstants.{TOO_LONG}
 use Rattle.office_run.specs.declared.script.Line.{Line}

@@ -8,7 +8,7 @@ use Rattle.std.proofs.lemmas.List.{append-nil}
 use Rattle.action_table.specs.declared.definitions.Defs.{Defs}
 use Rattle.action_table.specs.declared.defs_fault.DefsFault.{DefsFault}
 use Rattle.action_table.specs.DefsText.{IsDefsReading, MeansDefs}
-use Rattle.office_core.specs.declared.flat.FlatMachine.{FlatMachine}
+use Rattle.flat_core.specs.declared.flat.FlatMachine.{FlatMachine}
 use Rattle.office_run.specs.declared.command.Command.{Command}
 use Rattle.office_run.specs.declared.command.Command.TheVariants.{Check, Run}
 use Rattle.office_run.specs.declared.status.Status.{Status}

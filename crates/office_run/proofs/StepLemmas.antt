@@ -2,7 +2,7 @@
 use Rattle.std.proofs.Common.{◌≡◌, ◌⊎◌, ℕ, List, take, Option, Some, subst, sym, ap, ◌∙◌, inl, inr}
 use Rattle.std.specs.Io.KnownBytes.{append_known}
 use Rattle.xs_outside.specs.Counts.{Rose}
-use Rattle.office_core.specs.declared.flat.FlatMachine.{FlatMachine}
+use Rattle.flat_core.specs.declared.flat.FlatMachine.{FlatMachine}
 use Rattle.office_run.specs.declared.program.TheConstants.{TOO_LONG}
 use Rattle.office_run.specs.declared.status.Status.{Status}
 use Rattle.office_run.specs.declared.status.Status.TheVariants as status

@@ -6,10 +6,10 @@ use Rattle.ordered_json.specs.declared.json.OrderedJson.{OrderedJson}
 use Rattle.ordered_json.specs.Meaning.{Means}
 use Rattle.action_table.specs.declared.definitions.Defs.{Defs}
 use Rattle.action_table.specs.DefsText.{MeansDefs}
-use Rattle.office_core.specs.declared.flat.FlatMachine.{FlatMachine}
-use Rattle.office_core.specs.declared.flat_text.FlatFault.{FlatFault}
-use Rattle.office_core.specs.declared.flat_text.FlatFault.TheVariants.{NotFlat, Memory as no_memory}
-use Rattle.office_core.specs.FlatText.{office_in}
+use Rattle.flat_core.specs.declared.flat.FlatMachine.{FlatMachine}
+use Rattle.flat_core.specs.declared.flat_text.FlatFault.{FlatFault}
+use Rattle.flat_core.specs.declared.flat_text.FlatFault.TheVariants.{NotFlat, Memory as no_memory}
+use Rattle.flat_core.specs.FlatText.{office_in}
 use Rattle.office_run.specs.declared.definitions.TheConstants.{MAX_DEFINITIONS_TAKEN}
 use Rattle.office_run.specs.declared.definitions.DefinitionsFault.{DefinitionsFault}
 use Rattle.office_run.specs.declared.definitions.DefinitionsFault.TheVariants.{Failed, Memory}

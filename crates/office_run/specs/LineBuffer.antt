@@ -1,6 +1,6 @@
 -- What the buffer of a line has of it.
 use Rattle.std.specs.Prelude.{◌≡◌, ℕ, ◌+◌, ◌-◌, List, ◌++◌, length, take}
-use Rattle.office_core.specs.declared.request_line.TheConstants.{MAX_LINE}
+use Rattle.flat_core.specs.declared.request_line.TheConstants.{MAX_LINE}
 use Rattle.office_run.specs.declared.line_buffer.LineBuffer.{LineBuffer}
 
 -- the line has these bytes more

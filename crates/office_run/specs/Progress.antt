@@ -1,8 +1,8 @@
 -- How far a conversation has come.
 use Rattle.std.specs.Prelude.{◌≡◌, ◌⊎◌, ℕ, ◌+◌, ◌<◌, ◌≤◌, true, false, List, [], ◌∷◌, ◌++◌, length, Option}
 use Rattle.std.specs.Io.KnownBytes.{prepend_known, append_known, IsAtEnd}
-use Rattle.office_core.specs.declared.flat.FlatMachine.{FlatMachine}
-use Rattle.office_core.specs.Office.{empty_office}
+use Rattle.flat_core.specs.declared.flat.FlatMachine.{FlatMachine}
+use Rattle.flat_core.specs.Office.{empty_office}
 use Rattle.office_run.specs.declared.input.TheConstants.{MAX_INPUT}
 use Rattle.office_run.specs.declared.script.Line.{Line}
 use Rattle.office_run.specs.Lines.{has_feed, with_feeds}

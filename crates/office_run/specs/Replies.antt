@@ -3,15 +3,15 @@ use Rattle.std.specs.Prelude.{ℕ, List, [], ◌∷◌, ◌++◌, Option, None, 
 use Rattle.std.specs.Option.{option_map_or}
 use Rattle.json.specs.Print.{quoted}
 use Rattle.xs_data.specs.Ascii.{line_feed}
-use Rattle.office_core.specs.declared.flat.FlatMachine.{FlatMachine}
-use Rattle.office_core.specs.declared.request.Request.{Request as Asked}
-use Rattle.office_core.specs.declared.request.Reply.{Reply}
-use Rattle.office_core.specs.declared.request.Word.{Word}
-use Rattle.office_core.specs.declared.request.Word.TheVariants as word
-use Rattle.office_core.specs.declared.request.TheConstants.{STATUS_NOT_FOUND}
-use Rattle.office_core.specs.declared.office.Claim.{Claim}
-use Rattle.office_core.specs.Office.{Office, decided, took, first_ready, value_of, Shown, never, waiting, key}
-use Rattle.office_core.specs.RequestLine.{spaced_text}
+use Rattle.flat_core.specs.declared.flat.FlatMachine.{FlatMachine}
+use Rattle.flat_core.specs.declared.request.Request.{Request as Asked}
+use Rattle.flat_core.specs.declared.request.Reply.{Reply}
+use Rattle.flat_core.specs.declared.request.Word.{Word}
+use Rattle.flat_core.specs.declared.request.Word.TheVariants as word
+use Rattle.flat_core.specs.declared.request.TheConstants.{STATUS_NOT_FOUND}
+use Rattle.flat_core.specs.declared.office.Claim.{Claim}
+use Rattle.flat_core.specs.Office.{Office, decided, took, first_ready, value_of, Shown, never, waiting, key}
+use Rattle.flat_core.specs.RequestLine.{spaced_text}
 use Rattle.office_run.specs.declared.replies.TheConstants.{ACTOR, LETTER, MACHINE, STEP, VALUE, ACTIVE, NULL, EMPTY, IDLE, MALFORMED}
 use Rattle.office_run.specs.declared.script.Line.{Line}
 use Rattle.office_run.specs.declared.script.Line.TheVariants.{Request, Turn, Value, Malformed}

@@ -3,8 +3,8 @@ use Rattle.std.specs.Prelude.{◌≡◌, ◌⊎◌, ℕ, ◌<◌, ◌≤◌, Lis
 use Rattle.action_table.specs.declared.definitions.Defs.{Defs}
 use Rattle.action_table.specs.declared.defs_fault.DefsFault.{DefsFault}
 use Rattle.action_table.specs.DefsText.{IsRefusedDefs, MeansDefs}
-use Rattle.office_core.specs.declared.flat.FlatMachine.{FlatMachine}
-use Rattle.office_core.specs.Office.{empty_office}
+use Rattle.flat_core.specs.declared.flat.FlatMachine.{FlatMachine}
+use Rattle.flat_core.specs.Office.{empty_office}
 use Rattle.office_run.specs.declared.command.Command.{Command}
 use Rattle.office_run.specs.declared.command.Command.TheVariants.{Check, Run}
 use Rattle.office_run.specs.declared.input.TheConstants.{MAX_INPUT}

@@ -1,6 +1,6 @@
 -- The lines of a script.
 use Rattle.std.specs.Prelude.{◌≡◌, ℕ, ◌^◌, ◌<◌, List, [], ◌∷◌, codes, decimal}
-use Rattle.office_core.specs.RequestLine.{spaced_text, IsRequest}
+use Rattle.flat_core.specs.RequestLine.{spaced_text, IsRequest}
 use Rattle.office_run.specs.declared.script.Line.{Line}
 use Rattle.office_run.specs.declared.script.Line.TheVariants.{Request, Turn, Value, Malformed}
 

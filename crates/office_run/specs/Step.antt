@@ -1,8 +1,8 @@
 -- One step of a run: the next line is taken and answered, or the run ends.
 use Rattle.std.specs.Prelude.{◌≡◌, ◌⊎◌, ℕ, ◌+◌, ◌≤◌, true, List, take, Option, None, Some}
 use Rattle.std.specs.Io.KnownBytes.{append_known, IsAtEnd}
-use Rattle.office_core.specs.declared.flat.FlatMachine.{FlatMachine}
-use Rattle.office_core.specs.Office.{Office}
+use Rattle.flat_core.specs.declared.flat.FlatMachine.{FlatMachine}
+use Rattle.flat_core.specs.Office.{Office}
 use Rattle.office_run.specs.declared.input.TheConstants.{MAX_INPUT}
 use Rattle.office_run.specs.declared.program.TheConstants.{TOO_LONG}
 use Rattle.office_run.specs.declared.script.Line.{Line}

@@ -4,7 +4,7 @@ ghost use Rattle.std.specs.Prelude.{◌≡◌, ◌+◌, ◌≤◌, ◌↔◌, If
 ghost use Rattle.office_run.specs.Definitions.{CountsSource, ReadsFlat, TakesText};
 
 use crate::input::{new_piece, read_piece};
-use office_core::{FlatFault, FlatMachines, read_flat};
+use flat_core::{FlatFault, FlatMachines, read_flat};
 use ordered_json::laws::meaning_is_unique;
 use ordered_json::{JsonFault, MAX_TEXT, read};
 use std::alloc::{AllocError, Global};

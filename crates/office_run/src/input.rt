@@ -8,7 +8,7 @@ ghost use Rattle.xs_outside.specs.Counts.{Rose};
 ghost use Rattle.xs_outside.specs.Streams.{CountsReadFailure, ReadGives, bytes_given};
 
 use crate::line_buffer::LineBuffer;
-use office_core::MAX_LINE;
+use flat_core::MAX_LINE;
 use std::alloc::{AllocError, Global};
 use std::marker::Model;
 use xs_outside::{Both, Got, Source};

@@ -2,7 +2,7 @@
 
 ghost use Rattle.std.specs.Prelude.{◌≡◌, ◌+◌, [], ◌^◌, ◌<◌, length, OnOk, OnErr, IsTrue, ◌↔◌};
 
-use office_core::MAX_LINE;
+use flat_core::MAX_LINE;
 use std::alloc::{AllocError, Global};
 
 /// The line that is being read: as many of its first bytes as a line may have, and how many it has. It keeps no more, however
@@ -14,7 +14,7 @@ pub struct LineBuffer {
 }
 
 impl LineBuffer {
-    ghost use Rattle.office_core.specs.declared.request_line.TheConstants.{MAX_LINE};
+    ghost use Rattle.flat_core.specs.declared.request_line.TheConstants.{MAX_LINE};
     ghost use Rattle.office_run.specs.LineBuffer.{Extends, Holds};
 
     /// An empty line. It takes no memory.

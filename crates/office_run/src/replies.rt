@@ -2,12 +2,12 @@
 
 ghost use Rattle.std.specs.Prelude.{◌≡◌, IfOk, IsUtf8, string_bytes};
 ghost use Rattle.json.specs.Print.{quoted};
-ghost use Rattle.office_core.specs.Office.{decided, first_ready, value_of};
-ghost use Rattle.office_core.specs.Shown.{shown_as, IsTextShown};
+ghost use Rattle.flat_core.specs.Office.{decided, first_ready, value_of};
+ghost use Rattle.flat_core.specs.Shown.{shown_as, IsTextShown};
 ghost use Rattle.office_run.specs.Replies.{answer_line, office_after, word_text, reply_line, step_line, value_line};
 
 use crate::script::Line;
-use office_core::{Core, FlatValue, Refused, Reply, Request, STATUS_NOT_FOUND, Word};
+use flat_core::{Core, FlatValue, Refused, Reply, Request, STATUS_NOT_FOUND, Word};
 use serde_json::Value;
 use std::alloc::{AllocError, Global};
 use std::str;

@@ -1,10 +1,10 @@
 //! The lines of a script.
 
 ghost use Rattle.std.specs.Prelude.{IfOk};
-ghost use Rattle.office_core.specs.RequestLine.{ReadsLine};
+ghost use Rattle.flat_core.specs.RequestLine.{ReadsLine};
 ghost use Rattle.office_run.specs.Script.{IsLine, IsValueLine};
 
-use office_core::{LineFault, Request, read_number, read_request};
+use flat_core::{LineFault, Request, read_number, read_request};
 use std::alloc::{AllocError, Global};
 
 /// A line of a script.

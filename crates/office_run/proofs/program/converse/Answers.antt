@@ -1,6 +1,6 @@
 use Rattle.std.proofs.Common.{List, [], Some, refl, subst, sym, ap, ◌∙◌}
 use Rattle.std.proofs.lemmas.List.{append-nil}
-use Rattle.office_core.specs.declared.flat.FlatMachine.{FlatMachine}
+use Rattle.flat_core.specs.declared.flat.FlatMachine.{FlatMachine}
 use Rattle.office_run.specs.declared.status.Status.{Status}
 use Rattle.office_run.specs.Status.{StationFaults, CountsFaults}
 use Rattle.office_run.specs.Step.{RunState, Steps}

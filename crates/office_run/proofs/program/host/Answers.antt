@@ -1,5 +1,5 @@
 use Rattle.std.proofs.Common.{◌-◌, List, subst}
-use Rattle.office_core.specs.declared.flat.FlatMachine.{FlatMachine}
+use Rattle.flat_core.specs.declared.flat.FlatMachine.{FlatMachine}
 use Rattle.office_run.specs.Definitions.{IsHosted}
 use Rattle.office_run.specs.Run.{Converses, Exchange}
 use Rattle.office_run.proofs.ServeLemmas.{hosts-answers}

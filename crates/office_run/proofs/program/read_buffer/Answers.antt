@@ -1,6 +1,6 @@
 use Rattle.std.proofs.Common.{◌<◌, List, ℕ, subst, sym, ◌∙◌, arith}
 use Rattle.std.proofs.lemmas.Bool.{false≢true}
-use Rattle.office_core.specs.declared.request_line.TheConstants.{MAX_LINE}
+use Rattle.flat_core.specs.declared.request_line.TheConstants.{MAX_LINE}
 use Rattle.office_run.specs.LineBuffer.{Holds}
 use Rattle.office_run.specs.Script.{IsLine}
 use Rattle.office_run.proofs.LineLemmas.{long-no_form, holds-short}

@@ -1,6 +1,6 @@
 use Rattle.std.proofs.Common.{◌≡◌, ◌∙◌, Some, ap, append_assoc}
 use Rattle.std.specs.Prelude.{string_bytes}
-use Rattle.office_core.specs.Office.{first_ready}
+use Rattle.flat_core.specs.Office.{first_ready}
 use Rattle.office_run.specs.Replies.{step_line}
 use Rattle.office_run.proofs.ReplyLemmas.{if_ok}
 use Rattle.office_run.proofs.replies.take_turn.Goals as goal

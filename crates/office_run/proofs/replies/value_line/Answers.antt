@@ -1,6 +1,6 @@
 use Rattle.std.proofs.Common.{◌≡◌, ◌∙◌, append_assoc}
 use Rattle.std.specs.Prelude.{string_bytes}
-use Rattle.office_core.specs.Shown.{shown_as}
+use Rattle.flat_core.specs.Shown.{shown_as}
 use Rattle.office_run.specs.Replies.{value_line}
 use Rattle.office_run.proofs.ReplyLemmas.{if_ok}
 use Rattle.office_run.proofs.replies.value_line.Goals as goal
