@@ -1,6 +1,7 @@
 -- What linking answers.
-use Rattle.std.proofs.Common.{◌≡◌, ℕ, ◌<◌, ◌^◌, List, [], ◌∷◌, Option, None, Some, Err, All, length, map, refl, sym, ap, ◌∙◌, subst}
+use Rattle.std.proofs.Common.{◌≡◌, ℕ, ◌<◌, ◌^◌, List, [], ◌∷◌, Option, None, Some, Err, All, length, map, refl, sym, ap, ◌∙◌, subst, inl, inr, arith}
 use Rattle.std.specs.List.{AllZip}
+use Rattle.std.proofs.lemmas.Bool.{cases_lt}
 use Rattle.guard_eval.specs.Definitions.{IsWellFormed}
 use Rattle.guard_eval.specs.declared.def.Def.{Def}
 use Rattle.machine_json.specs.declared.machine.Machine.{Machine}
@@ -10,14 +11,14 @@ use Rattle.action_table.specs.declared.definitions.Defs.{Defs}
 use Rattle.action_table.specs.declared.fault.TableFault.TheVariants.{Twice, Unnamed}
 use Rattle.action_table.specs.declared.table.Table.{Table}
 use Rattle.action_table.specs.Definitions.{office_definitions}
-use Rattle.action_table.specs.DefNames.{HasIds, ids_of_machines}
+use Rattle.action_table.specs.DefNames.{HasIds, HaveDistinctIds, ids_of_machines}
 use Rattle.action_table.specs.Linked.{HaveOwnIds, IsLinkOf, IsLinkReading}
 use Rattle.action_table.specs.Linking.{AreLinkedTo, IsLinkedMachine, all_there, linked_actor}
 use Rattle.action_table.specs.TablePlaces.{IsLeastOf}
 use Rattle.action_table.specs.Unnamed.{least_unnamed}
 use Rattle.action_table.specs.Uses.{IsTwice, IsUnnamed, uses}
 use Rattle.action_table.proofs.OfficeLemmas.{office-linked}
-use Rattle.action_table.proofs.ThereLemmas.{there-zip, zip-length}
+use Rattle.action_table.proofs.ThereLemmas.{there-zip, zip-at, zip-length}
 use Rattle.action_table.proofs.UseLemmas.{unnamed-least}
 use Rattle.action_table.proofs.WellFormedLemmas.{all-well-formed}
 
@@ -51,9 +52,24 @@ module _ (machines : List Machine) (table : Table) where
   names (machine ∷ some) [] each = absurd each
   names (machine ∷ some) (def ∷ defs) each = ap (λ n. n ∷ map (λ (id : List ℕ × ℕ). id.0) (ids_of_machines some)) (sym each.0.name) ∙ ap (λ l. def.name ∷ l) (names some defs each.1)
 
-  pub has-ids : (ids : List (List ℕ × ℕ)) (defs : List Def) → length machines < 2 ^ 32 → ids ≡ ids_of_machines machines → AllZip (IsLinkedMachine table) machines defs → HasIds ids defs
-  has-ids ids defs few same each = subst (λ held. HasIds held defs) (sym same) (record {
+  -- two machines with one id are one
+  pub distinct-ids : (defs : List Def) → HaveOwnIds machines → AllZip (IsLinkedMachine table) machines defs → HaveDistinctIds defs
+  distinct-ids defs own each i j one other at_i at_j same =
+      let first = zip-at (IsLinkedMachine table) machines defs i one each at_i in
+      let second = zip-at (IsLinkedMachine table) machines defs j other each at_j in
+      let names_same : first.0.name ≡ second.0.name = sym first.2.name ∙ same ∙ second.2.name in
+      elim (cases_lt i j) [
+        | inl below ↦ absurd (own second.0.place (j, i, second.0, first.0, below, second.1, first.1, sym names_same, refl))
+        | inr above ↦ elim (cases_lt j i) [
+          | inl higher ↦ absurd (own first.0.place (i, j, first.0, second.0, higher, first.1, second.1, names_same, refl))
+          | inr equal ↦ omega arith
+        ]
+      ]
+
+  pub has-ids : (ids : List (List ℕ × ℕ)) (defs : List Def) → length machines < 2 ^ 32 → HaveOwnIds machines → ids ≡ ids_of_machines machines → AllZip (IsLinkedMachine table) machines defs → HasIds ids defs
+  has-ids ids defs few own same each = subst (λ held. HasIds held defs) (sym same) (record {
     ids_are = names machines defs each;
+    distinct = distinct-ids defs own each;
     few = subst (λ n. n < 2 ^ 32) (sym (zip-length (IsLinkedMachine table) machines defs each)) few;
   })
 

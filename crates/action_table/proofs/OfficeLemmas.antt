@@ -1,11 +1,15 @@
 -- The definitions of an office by their numbers and ids.
-use Rattle.std.proofs.Common.{◌≡◌, ℕ, ◌+◌, ◌<◌, Bool, cond, not, nat_lt, List, [], ◌∷◌, None, Some, All, IfSome, length, map, refl, sym, ap, ◌∙◌, subst}
-use Rattle.std.specs.Prelude.{position}
+use Rattle.std.proofs.Common.{◌≡◌, ℕ, ◌+◌, ◌<◌, Bool, cond, not, nat_lt, true, false, ◌≤◌, inl, inr, get_or, arith, List, [], ◌∷◌, None, Some, All, IfSome, length, map, refl, sym, ap, ◌∙◌, subst}
+use Rattle.std.specs.Prelude.{position, slice_get}
 use Rattle.std.specs.List.{position_or_len, prefix_len}
 use Rattle.std.specs.Str.{bytes_eq}
+use Rattle.std.proofs.lemmas.Bool.{cases_lt, lt-ltb}
 use Rattle.std.proofs.lemmas.List.{length-map}
 use Rattle.std.proofs.lemmas.List.Elements.{All-from_recursion, All-map}
 use Rattle.std.proofs.lemmas.List.Quantifiers.{position-Some}
+use Rattle.std.proofs.lemmas.List.Sums.{fails_before_first, passes_at_first}
+use Rattle.std.proofs.lemmas.Option.{get_or_from_slice_get, slice_get-get_or, slice_get-map, slice_get_within}
+use Rattle.std.proofs.lemmas.Slice.Eq.{bytes_eq-Decides}
 use Rattle.ordered_json.proofs.KeyLemmas.{bytes_eq-flip}
 use Rattle.guard_eval.specs.declared.def.Def.{Def}
 use Rattle.machine_json.specs.declared.machine.Machine.{Machine}
@@ -17,7 +21,7 @@ use Rattle.action_table.specs.declared.table.Table.{Table}
 use Rattle.action_table.specs.declared.table.TableActor.{TableActor}
 use Rattle.action_table.specs.declared.table.TableActor.TheVariants as table_actor
 use Rattle.action_table.specs.Definitions.{actor_logic, machine_outline, office_definitions}
-use Rattle.action_table.specs.DefNames.{HasIds, ids_of_machines}
+use Rattle.action_table.specs.DefNames.{HasIds, HaveDistinctIds, ids_of_machines}
 use Rattle.action_table.specs.Linking.{AreLinkedTo, IsLinkedMachine, linked_actor, linked_logic, machine_number}
 use Rattle.action_table.proofs.ThereLemmas.{map-some, there-each, zip-length}
 
@@ -41,11 +45,35 @@ id-place ids defs id has =
     sym (position-map (λ (row : List ℕ × ℕ). row.0) (bytes_eq id) ids) ∙ ap (position (bytes_eq id)) has.ids_are
     ∙ position-map (λ (def : Def). def.name) (bytes_eq id) defs
 
+-- the only definition with an id is at the place of the id
+pub own-place : (defs : List Def) (n : ℕ) (def : Def) (id : List ℕ) → HaveDistinctIds defs → slice_get defs n ≡ Some def → def.name ≡ id
+    → position (λ (d : Def). bytes_eq id d.name) defs ≡ Some n
+own-place defs n def id distinct at is =
+    let has : Def → Bool = λ d. bytes_eq id d.name in
+    let first : ℕ = position_or_len has defs in
+    let inside : n < length defs = slice_get_within defs n def at in
+    let own : has (get_or defs n def) ≡ true = subst (λ (d : Def). has d ≡ true) (sym (get_or_from_slice_get defs n def def at)) ((bytes_eq-Decides id def.name).1 (sym is)) in
+    let up_to : first ≤ n = elim (cases_lt n first) as (λ _. first ≤ n) [
+      | inl below ↦ let both : true ≡ false = sym own ∙ fails_before_first has defs n def below in absurd (cc)
+      | inr other ↦ other
+    ] in
+    let within : first < length defs = omega (arith, inside, up_to) in
+    let same : (get_or defs first def).name ≡ id = sym ((bytes_eq-Decides id (get_or defs first def).name).0 (passes_at_first has defs def within)) in
+    let there : first ≡ n = distinct first n (get_or defs first def) def (slice_get-get_or defs first def within) at (same ∙ sym is) in
+    ap (λ (b : Bool). cond b (Some first) None) (lt-ltb first (length defs) within) ∙ ap Some there
+
 -- the number of a machine among the definitions of an office
 pub named-place : (defs : Defs) (id : List ℕ) → position (λ (def : Def). bytes_eq id def.name) defs.defs ≡ machine_named (office_definitions defs) id
 named-place defs id =
     ap (λ (p : Def → Bool). position p defs.defs) (λ i def. bytes_eq-flip id def.name i)
     ∙ sym (position-map machine_outline (λ (machine : MachineOutline). bytes_eq machine.id id) defs.defs)
+
+-- a machine of an office's definitions is what stands at its place
+pub outline-at : (defs : Defs) (n : ℕ) (machine : MachineOutline) → slice_get (office_definitions defs).machines n ≡ Some machine
+    → (def : Def) × (slice_get defs.defs n ≡ Some def) × (def.name ≡ machine.id)
+outline-at defs n machine at =
+    let found = map-some machine_outline (slice_get defs.defs n) machine (sym (slice_get-map machine_outline defs.defs n) ∙ at) in
+    (found.0, found.1, ap (λ (m : MachineOutline). m.id) found.2)
 
 -- ---- actors
 

@@ -1,6 +1,6 @@
 //! Machines by their numbers and by their ids.
 
-ghost use Rattle.std.specs.Prelude.{◌≡◌, ◌==◌, length, map, option_map, position, slice_get};
+ghost use Rattle.std.specs.Prelude.{◌≡◌, ◌==◌, ℕ, Some, length, map, option_map, position, slice_get};
 ghost use Rattle.std.specs.Str.{bytes_eq};
 ghost use Rattle.guard_eval.specs.declared.def.Def.{Def};
 ghost use Rattle.std.specs.declared.alloc.Global.{Global as global_alloc};
@@ -66,9 +66,12 @@ impl DefList {
         self.defs.get(number as usize)
     }
 
-    /// The number of the machine with this id, found by a hash of the id. It takes no memory.
+    /// The number of the machine with this id, found by a hash of the id. No other machine has the id.
+    /// It takes no memory.
     pub fn number_of(&self, id: &[u8]) -> Option<u32>
-        ensures { result ≡ position (λ (def : Def). bytes_eq id.now def.name) self.now }
+        ensures number { result ≡ position (λ (def : Def). bytes_eq id.now def.name) self.now }
+        ensures own { (n : ℕ) (def : Def) → slice_get self.now n ≡ Some def →
+            def.name ≡ id.now → result ≡ Some n }
     {
         let place = self.ids.place_of(id)?;
         Some(place as u32)

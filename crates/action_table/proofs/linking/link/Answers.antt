@@ -14,6 +14,7 @@ returns-in-Some-first_unnamed-clause-reading c =
 pub new-requires : goal.new-requires
 new-requires c =
     has-ids c.args.machines.now c.args.table.now c.in_ok-ids.ids (defs_held c.in_ok-defs.defs.items) c.requires.machines
+    (own-ids c.args.machines.now c.args.table.now c.in_ok-ids.twice c.in_ok-ids.ensures.twice c.in_default.is)
     (c.in_ok-ids.ensures.ids c.in_default.is) c.in_ok-defs.ensures
 
 pub returns-clause-reading : goal.returns-clause-reading

@@ -9,7 +9,7 @@ use Rattle.actor_tree.proofs.asks.start.Goals as goal
 pub returns : goal.returns
 returns c =
     let office = c.args.held.now.office in
-    let named : machine_named (office_definitions c.args.defs.now) c.args.machine.now ≡ Some c.in-Some.number = sym (rw c.as_bytes.ensures at c.machine_named.ensures) ∙ c.in-Some.is in
+    let named : machine_named (office_definitions c.args.defs.now) c.args.machine.now ≡ Some c.in-Some.number = sym (rw c.as_bytes.ensures at c.machine_named.ensures.number) ∙ c.in-Some.is in
     let made = rw (c.next_letter.ensures, c.in_ok-copy.ensures, c.in_ok-init_event.ensures, c.in_ok-copy-2.ensures, c.in_ok-copy_name.ensures) at (c.in_ok-made.ensures.made office.next_actor) in
     record {
       answer = record {
