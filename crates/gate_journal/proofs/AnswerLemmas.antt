@@ -1,6 +1,7 @@
 -- Both sides of bytes hold one thing, or have their first fault at one place.
 use Rattle.std.proofs.Common.{◌≡◌, ◌⊎◌, inl, inr, ℕ, ◌<◌, ◌≤◌, if◌then◌else◌, nat_lt, List, length, drop, get_or, refl, sym, ◌∙◌, ap, subst, arith}
 use Rattle.std.specs.Prelude.{◌==◌, Some, None}
+use Rattle.std.specs.declared.option.Option.{Option}
 use Rattle.std.proofs.lemmas.Bool.{cases_eq, cases_lt}
 use Rattle.std.proofs.lemmas.Bool.Decides.{nat_tests}
 use Rattle.xs_outside.specs.declared.Side.{Side}
@@ -9,8 +10,8 @@ use Rattle.xs_outside.specs.Disk.{Sides, on, other}
 use Rattle.gate_journal.specs.declared.held.Held.{Held}
 use Rattle.gate_journal.specs.declared.parts.TheConstants.{OPEN, HEAD}
 use Rattle.gate_journal.specs.Layout.{Content, HoldsContent, HasShortHead, IsClosed, IsOpen, places_from}
-use Rattle.gate_journal.specs.Laws.{BothSidesHaveOneAnswer, HasAnswer, HasLayout, OneAnswer, OneLayout, bad, closed, faulty, hold, holding}
-use Rattle.gate_journal.specs.Sides.{HasGeneration, IsBehind, held_content, first_place}
+use Rattle.gate_journal.specs.Laws.{BothSidesHaveOneAnswer, HasAnswer, HasLayout, OneAnswer, OneLayout, SidesHoldOne, bad, closed, faulty, hold, holding}
+use Rattle.gate_journal.specs.Sides.{HasGeneration, IsBehind, SidesHold, held_content, first_place}
 use Rattle.gate_journal.proofs.FrontLemmas.{head_length}
 use Rattle.gate_journal.proofs.LayoutLemmas.{AreBytes, agree, are_bytes, head_is_open, holds_head, kind_of, same_head, some_layout, whole_head}
 
@@ -132,10 +133,13 @@ short_b sides place bytes is (inr long) e =
 holds_generation : (content : Content) (side : List ℕ) → HoldsContent content side → HasGeneration content.generation side
 holds_generation content side holds = (length content.base, _, holds_head side content holds)
 
-picked_of : (sides : Sides) → AreBytes sides.a → AreBytes sides.b → (one : OneAnswer) → HasAnswer one sides → Picked sides one
-picked_of sides a b (hold None) is = record { a = shut; b = shut; is_a = is.0; is_b = is.1; picked = neither; by = refl; detail = refl }
-picked_of sides a b (hold (Some held)) is =
+picked_hold : (sides : Sides) (held : Option Held) → SidesHold held sides → Picked sides (hold held)
+picked_hold sides None is = record { a = shut; b = shut; is_a = is.0; is_b = is.1; picked = neither; by = refl; detail = refl }
+picked_hold sides (Some held) is =
     newer_of sides held.side held.generation (holds_generation (held_content held) (on held.side sides) is.holds) is.behind (holding (held_content held)) is.holds (hold (Some held)) (ap (λ p. hold (Some (record held { places = p }))) is.places)
+
+picked_of : (sides : Sides) → AreBytes sides.a → AreBytes sides.b → (one : OneAnswer) → HasAnswer one sides → Picked sides one
+picked_of sides a b (hold held) is = picked_hold sides held is
 picked_of sides a b (faulty A place) (inl is) =
     let front = front_of sides.b b in
     record { a = short; b = front.0; is_a = is.0; is_b = front.1; picked = short_at A; by = refl; detail = ap (faulty A) is.1 }
@@ -159,6 +163,13 @@ same_answer sides x y p q =
     let fronts : pick p.a p.b ≡ pick q.a q.b = λ i. pick (ea i) (eb i) in
     let same : p.picked ≡ q.picked = sym p.by ∙ fronts ∙ q.by in
     same_detail q.picked sides x y (subst (λ k. Detail k x sides) same p.detail) q.detail
+
+abbrev held_of : OneAnswer → Option Held
+held_of (hold held) = held
+held_of (faulty side place) = None
+
+pub hold_one : SidesHoldOne
+hold_one sides one any is_one is_any = ap held_of (same_answer sides (hold any) (hold one) (picked_hold sides any is_any) (picked_hold sides one is_one))
 
 -- ---- both sides have an answer
 

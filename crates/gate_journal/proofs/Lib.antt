@@ -4,6 +4,7 @@ pub mod FrontLemmas
 pub mod GateLemmas
 pub mod InUseLemmas
 pub mod HoldLemmas
+pub mod IndexLemmas
 pub mod LayoutLemmas
 pub mod NumberLemmas
 pub mod OkLemmas

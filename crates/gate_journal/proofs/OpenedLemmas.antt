@@ -1,5 +1,5 @@
 -- What a journal that is opened knows.
-use Rattle.std.proofs.Common.{◌≡◌, ℕ, suc, ◌+◌, ◌-◌, ◌<◌, List, [], ◌∷◌, ◌++◌, length, get_or, refl, sym, ◌∙◌, ap, arith}
+use Rattle.std.proofs.Common.{◌≡◌, ℕ, ◌+◌, ◌-◌, ◌<◌, List, [], ◌∷◌, ◌++◌, length, get_or, sym, ◌∙◌, ap, arith}
 use Rattle.std.specs.Prelude.{Some, None, IfSome, slice_index}
 use Rattle.std.specs.declared.option.Option.{Option}
 use Rattle.std.specs.List.{flat_map}
@@ -13,10 +13,7 @@ use Rattle.gate_journal.specs.Opened.{PointsTo}
 use Rattle.gate_journal.specs.Sides.{SidesHold, held_content, first_place}
 use Rattle.gate_journal.proofs.DropLemmas.{last_record, records_split}
 use Rattle.gate_journal.proofs.HoldLemmas.{length-side_text, places_from-push}
-
-length-places_from : (place : ℕ) (records : List (List ℕ)) → length (places_from place records) ≡ length records
-length-places_from place [] = refl
-length-places_from place (x ∷ xs) = ap suc (length-places_from (place + length (record_text x)) xs)
+use Rattle.gate_journal.proofs.IndexLemmas.{length-places_from}
 
 -- the last place is where the last record begins
 last_begins : (held : Held) → held.places ≡ places_from (first_place (held_content held)) held.records → 0 < length held.places

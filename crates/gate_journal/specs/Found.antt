@@ -1,5 +1,5 @@
 -- What reading both sides finds.
-use Rattle.std.specs.Prelude.{◌≡◌, ◌↔◌, ℕ, ◌+◌, IsTrue, length, Result, Ok, Err, IfSome}
+use Rattle.std.specs.Prelude.{◌≡◌, ◌↔◌, ℕ, ◌+◌, Bool, true, false, IsTrue, length, Result, Ok, Err, IfSome}
 use Rattle.xs_outside.specs.declared.Side.{Side}
 use Rattle.xs_outside.specs.declared.Side.TheVariants.{A, B}
 use Rattle.xs_outside.specs.Counts.{Rose}
@@ -18,6 +18,13 @@ use Rattle.gate_journal.specs.Sides.{SidesHold, held_content}
 abbrev pub refused_sides : ReadRefused → SidesRefused
 refused_sides read.Fault = Fault
 refused_sides read.Memory = Memory
+
+-- the answer is a fault
+abbrev pub sides_failed : {T : Type 0} → Result T SidesRefused → Bool
+sides_failed (Ok _) = false
+sides_failed (Err Fault) = true
+sides_failed (Err Memory) = false
+sides_failed (Err (Bad side place)) = false
 
 -- the count of faults rises where the answer is a fault, and only there
 abbrev pub CountsSidesFault : {T : Type 0} → Result T SidesRefused → ℕ → ℕ → Type 0

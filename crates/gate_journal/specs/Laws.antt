@@ -41,6 +41,10 @@ HasAnswer (faulty side place) sides = AreBadAt side place sides
 abbrev pub HasOneAnswer : Sides → Type 0
 HasOneAnswer sides = (one : OneAnswer) × HasAnswer one sides × ((any : OneAnswer) → HasAnswer any sides → any ≡ one)
 
+-- both sides hold one thing, or nothing, whatever stands in them
+abbrev pub SidesHoldOne : Type 0
+SidesHoldOne = (sides : Sides) (one any : Option Held) → SidesHold one sides → SidesHold any sides → any ≡ one
+
 -- both sides of bytes hold one thing, or nothing, or have their first fault at one place of one side, and no two of these
 abbrev pub BothSidesHaveOneAnswer : Type 0
 BothSidesHaveOneAnswer =

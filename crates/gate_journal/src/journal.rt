@@ -1,7 +1,7 @@
 //! The journal in use: records are appended, the last one is dropped, and the office moves to the
 //! other side.
 
-ghost use Rattle.std.specs.Prelude.{◌≡◌, ◌↔◌, ◌⊎◌, ◌+◌, ◌-◌, ◌++◌, [], ◌∷◌, ◌<◌, ◌≤◌, ◌^◌, length, slice_index, IsTrue, Some, Option, OnOk, IfOk, IfSome, is_err, is_some};
+ghost use Rattle.std.specs.Prelude.{◌≡◌, ◌↔◌, ◌⊎◌, ◌+◌, ◌-◌, ◌++◌, [], ◌∷◌, ◌<◌, ◌≤◌, ◌^◌, length, slice_index, IsTrue, Some, Option, OnErr, OnOk, IfOk, IfSome, IsSome, is_err, is_some};
 ghost use Rattle.gate_journal.specs.Opened.{PointsTo};
 ghost use Rattle.gate_journal.specs.Journal.{flag_after};
 ghost use Rattle.gate_journal.specs.Layout.{length_bytes, eight_bytes, IsRecordSize};
@@ -74,8 +74,8 @@ pub struct Journal<D: Disk> {
 
 impl<D: Disk> Journal<D> {
     ghost use Rattle.xs_outside.specs.Disk.{AllSince, other};
-    ghost use Rattle.gate_journal.specs.Found.{both_lengths};
-    ghost use Rattle.gate_journal.specs.Opened.{IfBadSides, disk_after, open_failed};
+    ghost use Rattle.gate_journal.specs.Found.{IfSidesBad, both_lengths, sides_failed};
+    ghost use Rattle.gate_journal.specs.Opened.{IfBadSides, IsIndexed, disk_after, open_failed};
     ghost use Rattle.gate_journal.specs.Runs.{IsJournalCall, KeepsSides};
     ghost use Rattle.gate_journal.specs.Sides.{AreBadAt};
     ghost use Rattle.gate_journal.specs.declared.held.Held.{Held};
@@ -88,6 +88,7 @@ impl<D: Disk> Journal<D> {
         ensures opened { IfOk result (λ r. IsTrue (D.state disk).honest
             → Stands r.1 (D.state (disk_of r.0)) r.0) }
         ensures can { IfOk result (λ r. CanSwitch r.0) }
+        ensures indexed { IfOk result (λ r. IfSome r.1 (λ held. IsIndexed held r.0)) }
         ensures bad { IfBadSides result (λ side place. IsTrue (D.state disk).honest
             → AreBadAt side place (D.state disk).content) }
         ensures sides { KeepsSides (D.state disk) (D.state (disk_after result)) }
@@ -127,7 +128,47 @@ impl<D: Disk> Journal<D> {
         }
     }
 
-    /// Whether a call of the disk has failed. A journal that is shut stays so: open its disk again.
+    /// Opens the journal anew over its own disk, as `open` does: it syncs both sides, and reads what
+    /// they hold. So a journal that was shut can be used again. Where it is refused the journal is
+    /// shut.
+    pub fn reopen(&mut self) -> Result<Option<Held>, SidesRefused>
+        ensures opened { IfOk result (λ held. IsTrue (D.state (disk_of self.old)).honest
+            → Stands held (D.state (disk_of self.new)) self.new) }
+        ensures can { OnOk result (CanSwitch self.new) }
+        ensures indexed { IfOk result (λ held. IfSome held (λ held. IsIndexed held self.new)) }
+        ensures shut { OnErr result (IsShut self.new) }
+        ensures bad { IfSidesBad result (λ side place. IsTrue (D.state (disk_of self.old)).honest
+            → AreBadAt side place (D.state (disk_of self.old)).content) }
+        ensures sides { KeepsSides (D.state (disk_of self.old)) (D.state (disk_of self.new)) }
+        ensures call { IsJournalCall (sides_failed result)
+            (D.state (disk_of self.old)) (D.state (disk_of self.new)) }
+        ensures fetched { IsTrue (D.state (disk_of self.old)).honest
+            → (D.state (disk_of self.new)).fetched ≤ (D.state (disk_of self.old)).fetched
+            + both_lengths (D.state (disk_of self.old)).content }
+    {
+        self.shut = true;
+        if sync_both(&mut self.disk).is_err() {
+            return Err(SidesRefused::Fault);
+        }
+        match read_sides(self.alloc, &mut self.disk) {
+            Ok(found) => {
+                let Found {
+                    held,
+                    end,
+                    a_is_ready,
+                    b_is_ready,
+                } = found;
+                self.current = current_of(&held, end);
+                self.a_is_ready = a_is_ready;
+                self.b_is_ready = b_is_ready;
+                self.shut = false;
+                Ok(held)
+            }
+            Err(refused) => Err(refused),
+        }
+    }
+
+    /// Whether a call of the disk has failed. A journal that is shut stays so until it is opened anew.
     pub fn is_shut(&self) -> bool
         ensures { IsTrue result ↔ IsShut self.now }
     {
@@ -380,7 +421,8 @@ fn current_of(held: &Option<Held>, end: u64) -> Option<Current>
 
 /// The last of some places.
 fn last_of(places: &[u64]) -> Option<u64>
-    ensures { IfSome result (λ place. (0 < length places.now)
+    ensures known { 0 < length places.now → IsSome result }
+    ensures place { IfSome result (λ place. (0 < length places.now)
         × (place ≡ slice_index places.now (length places.now - 1))) }
 {
     if places.is_empty() {

@@ -34,7 +34,7 @@
 //! front of bytes that were never synced.
 //!
 //! After a call of the disk that failed nobody knows what stands there, and no later sync may be
-//! trusted: the journal is shut for good. Open its disk again.
+//! trusted: the journal is shut until it is opened anew.
 //!
 //! # Invariants of a journal that isn't shut, on an honest disk
 //!
@@ -74,6 +74,6 @@ mod window;
 
 pub use held::{Held, Layout, Places};
 pub use journal::{AppendRefused, Journal, JournalRefused, SwitchRefused};
-pub use opening::layout;
+pub use opening::{SidesRefused, layout};
 pub use parts::{MAX_BASE, MAX_RECORD};
 pub use records::Records;

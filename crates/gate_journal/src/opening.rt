@@ -1,6 +1,6 @@
 //! Which side is held, and what it holds.
 
-ghost use Rattle.std.specs.Prelude.{◌≡◌, ◌↔◌, ◌+◌, ◌≤◌, IsTrue, IfOk, OnOk, MatchBool, is_err, length, drop};
+ghost use Rattle.std.specs.Prelude.{◌≡◌, ◌↔◌, ◌+◌, ◌≤◌, IsTrue, IfOk, IfSome, OnOk, MatchBool, is_err, length, drop};
 ghost use Rattle.xs_outside.specs.Counts.{Rose};
 ghost use Rattle.xs_outside.specs.Disk.{on, IsSettled};
 ghost use Rattle.gate_journal.specs.declared.parts.TheConstants.{HEAD};
@@ -87,6 +87,7 @@ pub fn read_held<D: Disk>(
     ensures held { IfOk result (λ r. IsTrue (D.state disk.old).honest
         → (r.0.generation ≡ generation)
         × IsHeldText r.0 window.side r.1 (on window.side (D.state disk.old).content)) }
+    ensures indexed { IfOk result (λ r. length r.0.places ≡ length r.0.records) }
     ensures bad { IfBad result (λ place. IsTrue (D.state disk.old).honest
         → IsBadAt (on window.side (D.state disk.old).content) place) }
     ensures reads { OnlyReads (D.state disk.old) (D.state disk.new) }
@@ -193,6 +194,8 @@ pub struct Found {
 pub fn read_sides<D: Disk>(alloc: Global, disk: &mut D) -> Result<Found, SidesRefused>
     ensures found { IfOk result (λ found. IsTrue (D.state disk.old).honest
         → IsFound found (D.state disk.old).content) }
+    ensures indexed { IfOk result (λ found. IfSome found.held (λ held.
+        length held.places ≡ length held.records)) }
     ensures bad { IfSidesBad result (λ side place. IsTrue (D.state disk.old).honest
         → AreBadAt side place (D.state disk.old).content) }
     ensures reads { OnlyReads (D.state disk.old) (D.state disk.new) }

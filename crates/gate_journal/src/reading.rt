@@ -92,6 +92,8 @@ pub fn read_records<D: Disk>(
         → AddsBetween (on window.old.side (D.state disk.old).content)
         window.old.place window.new.place records.old records.new places.old.items places.new.items
         × EndsAt (on window.old.side (D.state disk.old).content) window.new.place) }
+    ensures indexed { OnOk result (length places.old.items ≡ length records.old
+        → length places.new.items ≡ length records.new) }
     ensures bad { IfBad result (λ place. IsTrue (D.state disk.old).honest
         → AddsBetween (on window.old.side (D.state disk.old).content)
         window.old.place place records.old records.new places.old.items places.new.items

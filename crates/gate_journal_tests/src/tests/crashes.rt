@@ -1,11 +1,14 @@
 //! Scripts that are stopped at each call of the disk, and what a crash then leaves.
 
-use super::kit::open_on;
+ghost use Rattle.gate_journal.specs.InUse.{IsInUse};
+ghost use Rattle.gate_journal.specs.Journal.{disk_of};
+
+use super::kit::{open_anew, open_on};
 use super::script::{Plain, Step, Stop, run, script};
 use gate_journal::{Held, Journal, JournalRefused};
 use std::alloc::{AllocError, Global};
 use std::test::Fail;
-use xs_outside::{Image, MemoryDisk, MemoryStation};
+use xs_outside::{Disk, Image, MemoryDisk, MemoryStation};
 
 /// How many scripts are tried.
 const SCRIPTS: u64 = 6;
@@ -118,13 +121,27 @@ fn go_on(alloc: Global, station: MemoryStation, steps: &[Step], stop: Stop) -> R
     let Ok((mut journal, held)) = open_on(alloc, station) else {
         return Err("not opened again")?;
     };
-    let (held, done) = stop.held_now(&held)?;
+    let end = make_rest(alloc, &mut journal, steps, stop, &held)?;
+    leaves_either(alloc, &journal.disk(), &end)
+}
+
+/// Makes the rest of a script, where this was found to be held after a failed call.
+fn make_rest<D: Disk>(
+    alloc: Global,
+    journal: &mut Journal<D>,
+    steps: &[Step],
+    stop: Stop,
+    held: &Option<Held>,
+) -> Result<Stop, Fail>
+    requires { IsInUse (D.state (disk_of journal.old)) journal.old }
+{
+    let (held, done) = stop.held_now(held)?;
     let rest = steps.get(done..).unwrap_or(&[]);
-    let end = run(alloc, &mut journal, rest, held)?;
+    let end = run(alloc, journal, rest, held)?;
     if end.done != rest.len() {
         return Err("the rest isn't done")?;
     }
-    leaves_either(alloc, &journal.disk(), &end)
+    Ok(end)
 }
 
 /// Makes a script on a station whose call with this number fails, opens its disk again, and makes
@@ -144,6 +161,35 @@ fn after_one_failed_call_the_disk_is_opened_again_and_used(rt: HostRuntime) -> R
         let steps = script(rt.alloc(), seed, STEPS)?;
         for call in 1..=MOST_CALLS {
             fail_once(rt.alloc(), &steps, call)?;
+        }
+    }
+    Ok(())
+}
+
+/// Makes a script on a station whose call with this number fails, opens the journal anew in place, and
+/// makes the rest. Where opening fails there is no journal.
+fn fail_in_place(alloc: Global, steps: &[Step], call: u64) -> Result<(), Fail> {
+    let station = empty_station(alloc, [call].to_vec(alloc)?)?;
+    let Ok((mut journal, _)) = open_on(alloc, station) else {
+        return Ok(());
+    };
+    let stop = run(alloc, &mut journal, steps, Plain::new(alloc))?;
+    if stop.done == steps.len() {
+        return leaves_either(alloc, &journal.disk(), &stop);
+    }
+    let Ok(held) = open_anew(&mut journal) else {
+        return Err("not opened anew")?;
+    };
+    let end = make_rest(alloc, &mut journal, steps, stop, &held)?;
+    leaves_either(alloc, &journal.disk(), &end)
+}
+
+#[test]
+fn after_one_failed_call_the_journal_is_opened_anew_and_used(rt: HostRuntime) -> Result<(), Fail> {
+    for seed in 1..=SCRIPTS {
+        let steps = script(rt.alloc(), seed, STEPS)?;
+        for call in 1..=MOST_CALLS {
+            fail_in_place(rt.alloc(), &steps, call)?;
         }
     }
     Ok(())

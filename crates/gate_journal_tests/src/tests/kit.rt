@@ -1,10 +1,10 @@
 //! The calls of a journal for tests: each may be made of any journal in use, and tells whether it was done.
 
-ghost use Rattle.std.specs.Prelude.{IsTrue, IfOk};
+ghost use Rattle.std.specs.Prelude.{IsTrue, IfOk, OnOk};
 ghost use Rattle.gate_journal.specs.InUse.{IsInUse};
 ghost use Rattle.gate_journal.specs.Journal.{disk_of};
 
-use gate_journal::{Held, Journal, JournalRefused, MAX_RECORD};
+use gate_journal::{Held, Journal, JournalRefused, MAX_RECORD, SidesRefused};
 use std::alloc::Global;
 use xs_outside::Disk;
 
@@ -16,6 +16,13 @@ pub fn open_on<D: Disk>(
     ensures { IfOk result (λ r. IsInUse (D.state (disk_of r.0)) r.0) }
 {
     Journal::open(alloc, disk)
+}
+
+/// Opens a journal anew in place.
+pub fn open_anew<D: Disk>(journal: &mut Journal<D>) -> Result<Option<Held>, SidesRefused>
+    ensures { OnOk result (IsInUse (D.state (disk_of journal.new)) journal.new) }
+{
+    journal.reopen()
 }
 
 pub fn append_to<D: Disk>(journal: &mut Journal<D>, payload: &[u8]) -> bool

@@ -1,6 +1,7 @@
 use Rattle.std.proofs.Common.{◌≡◌, IsTrue, ◌+◌, ◌≤◌, length, take, drop, subst, sym, ◌∙◌, ap, arith, rules, ℕ, List}
 use Rattle.xs_outside.specs.Disk.{on}
 use Rattle.gate_journal.specs.Reading.{Adds, AddsBetween, Shows, StopsAt}
+use Rattle.gate_journal.proofs.IndexLemmas.{adds_indexed}
 use Rattle.gate_journal.proofs.WindowLemmas.{adds_joined, stops_at_end, stops_at_bad, stops_at_last, reads_on, same_text}
 use Rattle.gate_journal.proofs.reading.read_records.Goals as goal
 
@@ -27,6 +28,9 @@ returns-in-End-clause-records g c honest =
     let skipped = c.skip.ensures.shows text shown in
     let stops = subst (λ s. StopsAt s c.skip.new.self.bytes.items) c.in-End.is (subst (λ (l : List ℕ). StopsAt c.in_ok-count.stop l) (ap (λ (l : List ℕ). drop count l) here ∙ sym c.skip.ensures.bytes) c.in_ok-count.ensures.stop) in
     (to_here, stops_at_end text c.skip.new.self.bytes.items c.skip.new.self.place skipped.bytes stops)
+
+pub returns-in-End-clause-indexed : goal.returns-in-End-clause-indexed
+returns-in-End-clause-indexed g c many = adds_indexed c.pieces.window.place (take c.in_ok-count.count c.deref.result.now) c.in_ok-count.ensures.added.0 c.pieces.records c.take_records.new.records c.pieces.places.items c.take_records.new.places.items c.in_ok-count.ensures.added.1 (c.pieces.invariant.indexed many)
 
 pub returns-in-Bad-clause-bad : goal.returns-in-Bad-clause-bad
 returns-in-Bad-clause-bad g c honest =
@@ -86,5 +90,6 @@ pieces-preserved g c =
       added = adds;
       shows = λ honest. subst (λ t. Shows t c.read_more.new.self) at (c.in_ok-read_more.ensures.shows (subst IsTrue (sym reads.reads.honest) honest));
       reads = reads_on old (g.D.Disk.state c.pieces.disk) (g.D.Disk.state c.read_more.new.disk) c.args.window.now c.pieces.window c.skip.new.self c.read_more.new.self reads c.skip.ensures.side c.skip.ensures.length c.skip.ensures.left c.in_ok-read_more.ensures.reads;
+      indexed = λ many. adds_indexed c.pieces.window.place (take c.in_ok-count.count c.deref.result.now) c.in_ok-count.ensures.added.0 c.pieces.records c.take_records.new.records c.pieces.places.items c.take_records.new.places.items c.in_ok-count.ensures.added.1 (c.pieces.invariant.indexed many);
       faults = c.in_ok-read_more.ensures.faults ∙ c.pieces.invariant.faults;
     }
